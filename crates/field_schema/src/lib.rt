@@ -1,13 +1,16 @@
-// A library with one function.
+//! The typed schema: fields, keys of documents in a field, and the tokens of a text.
 #![tactic(auto)]
 
-ghost use Rattle.std.specs.Prelude.{◌≡◌};
-ghost use Rattle.field_schema.specs.Echo.{echo_of};
+mod field;
+mod key;
+mod memory;
+mod schema;
+mod text;
+mod token;
 
-// The `ensures` clause is the contract: what `echo` returns is `echo_of` of its argument, a definition
-// in `specs/Echo.antt`, which a caller's clause can cite too.
-pub fn echo(x: usize) -> usize
-    ensures { result ≡ echo_of x }
-{
-    x
-}
+pub use field::{Field, FieldList, FieldNo, FieldType};
+pub use key::Key;
+pub use memory::NoMemory;
+pub use schema::{Schema, SchemaFault};
+pub use text::{Text, Texts};
+pub use token::tokens;

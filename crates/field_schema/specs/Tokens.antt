@@ -1,0 +1,22 @@
+-- The tokens of a text.
+use Rattle.std.specs.Prelude.{ℕ, List, [], ◌∷◌, length, Bool, ◌||◌, nat_le, nat_lt, if◌then◌else◌, filter, map}
+use Rattle.std.specs.Str.{str_to_ascii_lowercase}
+use Rattle.field_schema.specs.Names.{is_letter, is_digit}
+
+-- an ASCII letter or digit, or a byte of a character past ASCII
+abbrev pub is_token_byte : ℕ → Bool
+is_token_byte c = is_letter c || (is_digit c || nat_le 128 c)
+
+-- c in front of the first piece
+abbrev pub onto : ℕ → List (List ℕ) → List (List ℕ)
+onto c [] = (c ∷ []) ∷ []
+onto c (piece ∷ pieces) = (c ∷ piece) ∷ pieces
+
+-- the pieces between the bytes that are in no token
+abbrev pub pieces : List ℕ → List (List ℕ)
+pieces [] = [] ∷ []
+pieces (c ∷ cs) = if is_token_byte c then onto c (pieces cs) else [] ∷ pieces cs
+
+-- the maximal runs of such bytes, with ASCII letters in lower case
+abbrev pub tokens : List ℕ → List (List ℕ)
+tokens text = map str_to_ascii_lowercase (filter (λ piece. nat_lt 0 (length piece)) (pieces text))

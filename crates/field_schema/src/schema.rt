@@ -1,0 +1,89 @@
+ghost use Rattle.std.specs.Prelude.{◌≡◌, ◌<◌, ◌≤◌, IfOk, IsTrue, length, map, Contains, option_map, slice_get};
+ghost use Rattle.std.specs.List.{list_all};
+ghost use Rattle.std.specs.Option.{option_copied};
+ghost use Rattle.field_schema.specs.Names.{is_field_name};
+ghost use Rattle.field_schema.specs.Outcome.{Gives};
+ghost use Rattle.field_schema.specs.Schema.{Fields, IsSchema, field_named, names_differ, string_field};
+ghost use Rattle.field_schema.specs.ReadSchema.{schema_of, is_no_memory};
+ghost use Rattle.serde_json.specs.View.{view};
+
+use crate::field::{Field, FieldNo, FieldType};
+use crate::memory::NoMemory;
+use crate::text::{Text, Texts};
+use serde_json::Value;
+use std::alloc::Global;
+use std::marker::Model;
+
+/// Why a value is no schema: the first fault.
+#[derive(Debug, Drop)]
+pub enum SchemaFault {
+    /// It is no object, its `fields` is no list of at least one object, or a field lacks a text for its name or
+    /// its type.
+    NotObject,
+    /// `uniqueKey` is missing or names no string field that is stored, indexed and single-valued.
+    NoUniqueKey,
+    /// The name is not of the form of names, is reserved, or is that of the 65th field.
+    BadName { name: Text },
+    /// The type is unknown, or a flag is neither true nor false.
+    BadType { name: Text },
+    /// An earlier field has the name.
+    Twice { name: Text },
+    /// Memory was wanting.
+    NoMemory,
+}
+
+/// A schema: 1 to 64 fields with distinct names, one of which is the unique key.
+#[derive(Debug, Drop)]
+pub struct Schema {
+    fields: Vec<Field>,
+    key: FieldNo,
+}
+
+impl Model for Schema {
+    ghost use Rattle.field_schema.specs.Schema.{Fields, IsSchema};
+
+    ghost Value = { Fields };
+
+    ghost view = { λ s. record { list = s.fields.items; key = s.key } };
+
+    ghost invariant = { λ s. IsSchema (record { list = s.fields.items; key = s.key }) };
+}
+
+impl Schema {
+    /// The schema that a JSON value reads to, or its first fault.
+    pub fn read(alloc: Global, value: &Value) -> Result<Schema, SchemaFault>
+        ensures { Gives is_no_memory result (schema_of (view value.now)) }
+    {
+        Err(SchemaFault::NoMemory)
+    }
+
+    /// The place of the field of that name; None exactly where there is none. It costs a comparison a field.
+    pub fn field(&self, name: &str) -> Option<FieldNo>
+        ensures { result ≡ field_named name.now self.now.list }
+    {
+        let place = self.fields.iter().position(|f| f.name.get() == name)?;
+        Some(place as FieldNo)
+    }
+
+    /// The field at a place; None exactly where there is none. It costs nothing.
+    pub fn get(&self, number: FieldNo) -> Option<&Field>
+        ensures { option_copied result ≡ slice_get self.now.list number }
+    {
+        self.fields.get(number as usize)
+    }
+
+    /// The place of the unique key. It costs nothing.
+    pub fn key_field(&self) -> FieldNo
+        ensures number { result ≡ self.now.key }
+        ensures lawful { IsSchema self.now }
+    {
+        self.key
+    }
+
+    /// The number of fields.
+    pub fn len(&self) -> u32
+        ensures { result ≡ length self.now.list }
+    {
+        self.fields.len() as u32
+    }
+}
