@@ -1,0 +1,3 @@
+pub mod Document
+pub mod ReadDoc
+pub mod DocJson

@@ -1,0 +1,101 @@
+ghost use Rattle.std.specs.Prelude.{◌≡◌, [], IfOk, map, slice_index_or};
+ghost use Rattle.std.specs.Arc.{arc_value};
+ghost use Rattle.field_schema.specs.Outcome.{Gives};
+ghost use Rattle.doc_model.specs.Document.{keys_at};
+ghost use Rattle.doc_model.specs.ReadDoc.{doc_of, is_no_memory};
+
+use field_schema::{FieldNo, Key, Schema, Text};
+use std::alloc::Global;
+use std::marker::Model;
+use std::sync::Arc;
+
+/// Why a body is no document: the first fault. Members are looked at in the order of their names' bytes.
+#[derive(Debug, Drop)]
+pub enum DocFault {
+    /// The body does not read as JSON, or is no object.
+    NotObject,
+    /// The unique key has no value.
+    NoId,
+    /// No field has the member's name.
+    UnknownField { name: Text },
+    /// A value is not one of the field's type.
+    BadValue { field: Text },
+    /// Several values came to a field that takes one.
+    ManyValues { field: Text },
+    /// A value of a string field is longer than 32,766 bytes; the length of the first such value is told.
+    TooLong { bytes: usize },
+    /// Memory was wanting.
+    NoMemory,
+}
+
+/// A document. Contracts see for each field, in the order of the schema, the list of its keys.
+///
+/// A value of a text field stands in it as the token of its whole text, so a document alone tells which of
+/// its values are texts to be read as tokens.
+#[derive(Debug, Drop)]
+pub struct Doc {
+    fields: Vec<Vec<Key>>,
+}
+
+impl Model for Doc {
+    ghost use Rattle.std.specs.Prelude.{List, map};
+    ghost use Rattle.field_schema.specs.declared.key.Key.{Key};
+
+    ghost Value = { List (List Key) };
+
+    ghost view = { λ d. map (λ v. v.items) d.fields.items };
+}
+
+impl Doc {
+    /// The document that a body reads to, or its first fault.
+    ///
+    /// The body is one JSON object. It costs the body's length times the logarithm of its members, and a
+    /// comparison a field for each member.
+    pub fn read(alloc: Global, schema: &Schema, body: &str) -> Result<Doc, DocFault>
+        ensures { Gives is_no_memory result (doc_of schema.now body.now) }
+    {
+        Err(DocFault::NoMemory)
+    }
+
+    /// The keys in a field, in their order; none where there is no such field. It costs nothing.
+    pub fn keys(&self, field: FieldNo) -> &[Key]
+        ensures { result.now ≡ keys_at self.now field }
+    {
+        match self.fields.get(field as usize) {
+            Some(keys) => keys.as_slice(),
+            None => &[],
+        }
+    }
+}
+
+/// A list of shared documents. Contracts see the list of the documents.
+#[derive(Debug, Drop)]
+pub struct Docs {
+    items: Vec<Arc<Doc>>,
+}
+
+impl Model for Docs {
+    ghost use Rattle.std.specs.Prelude.{List, map};
+    ghost use Rattle.std.specs.Arc.{arc_value};
+    ghost use Rattle.field_schema.specs.declared.key.Key.{Key};
+
+    ghost Value = { List (List (List Key)) };
+
+    ghost view = { λ d. map arc_value d.items.items };
+}
+
+impl Docs {
+    /// Wraps a vector, without memory.
+    pub fn new(items: Vec<Arc<Doc>>) -> Docs
+        ensures { result ≡ map arc_value items.items }
+    {
+        Docs { items }
+    }
+
+    /// The documents, without memory.
+    pub fn get(&self) -> &[Arc<Doc>]
+        ensures { map arc_value result.now ≡ self.now }
+    {
+        self.items.as_slice()
+    }
+}

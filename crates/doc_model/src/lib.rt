@@ -1,0 +1,8 @@
+//! Documents: for each field of the schema the list of its keys.
+#![tactic(auto)]
+
+mod doc;
+mod json;
+
+pub use doc::{Doc, DocFault, Docs};
+pub use json::doc_json;

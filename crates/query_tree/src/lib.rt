@@ -1,0 +1,8 @@
+//! Queries and sorts as trees, and which documents a query matches.
+#![tactic(auto)]
+
+mod query;
+mod sort;
+
+pub use query::{End, Queries, Query};
+pub use sort::{Sort, SortBy, SortKey};
