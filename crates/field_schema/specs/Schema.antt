@@ -1,5 +1,5 @@
 -- What contracts see of a schema.
-use Rattle.std.specs.Prelude.{◌≡◌, ℕ, ◌<◌, ◌≤◌, List, [], ◌∷◌, length, Bool, true, false, ◌&&◌, not, Option, Some, None, position, slice_get, IsSomeAnd, IsTrue, map}
+use Rattle.std.specs.Prelude.{ℕ, ◌≤◌, List, [], ◌∷◌, length, Bool, true, false, ◌&&◌, not, Option, position, slice_get, IsSomeAnd, IsTrue}
 use Rattle.std.specs.List.{list_all, list_any}
 use Rattle.field_schema.specs.declared.field.Field.{Field}
 use Rattle.field_schema.specs.declared.field.FieldType.{FieldType}

@@ -61,8 +61,7 @@ impl Schema {
     pub fn field(&self, name: &str) -> Option<FieldNo>
         ensures { result ≡ field_named name.now self.now.list }
     {
-        let place = self.fields.iter().position(|f| f.name.get() == name)?;
-        Some(place as FieldNo)
+        place_of(self.fields.as_slice(), name)
     }
 
     /// The field at a place; None exactly where there is none. It costs nothing.
@@ -86,4 +85,18 @@ impl Schema {
     {
         self.fields.len() as u32
     }
+}
+
+// The place of the field of that name in a list.
+#[tactic(auto, using(crate::proofs::Positions::position_nowhere))]
+fn place_of(fields: &[Field], name: &str) -> Option<FieldNo>
+    requires { length fields.now ≤ 64 }
+    ensures { result ≡ field_named name.now fields.now }
+{
+    for (i, f) in fields.iter().enumerate() {
+        if f.name.get() == name {
+            return Some(i as FieldNo);
+        }
+    }
+    None
 }
