@@ -1,3 +1,5 @@
 pub mod Keys
 pub mod Matches
 pub mod MatchLaws
+pub mod Order
+pub mod OrderLaws
