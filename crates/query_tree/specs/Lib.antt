@@ -3,3 +3,4 @@ pub mod Matches
 pub mod MatchLaws
 pub mod Order
 pub mod OrderLaws
+pub mod Feed

@@ -88,6 +88,12 @@ sort_by_cmp-same DocId DocId e = refl
 pub sort_by_eq-Decides : (a b : SortBy) → Decides (sort_by_eq a b) (a ≡ b)
 sort_by_eq-Decides = decided sort_by_cmp_total sort_by_cmp-same
 
+pub sort_by_eq-same : (a b : SortBy) → sort_by_eq a b ≡ true → a ≡ b
+sort_by_eq-same a b = (sort_by_eq-Decides a b).0
+
+pub sort_by_eq-refl : (a : SortBy) → sort_by_eq a a ≡ true
+sort_by_eq-refl a = (sort_by_eq-Decides a a).1 refl
+
 pub sort_key_cmp_total : IsTotalOrder sort_key_cmp
 sort_key_cmp_total = then_total (on_total (λ (k : SortKey). k.by) sort_by_cmp_total) (on_total (λ (k : SortKey). k.down) bool_cmp_total)
 
@@ -99,6 +105,12 @@ sort_key_cmp-same a b e =
 pub sort_key_eq-Decides : (a b : SortKey) → Decides (sort_key_eq a b) (a ≡ b)
 sort_key_eq-Decides = decided sort_key_cmp_total sort_key_cmp-same
 
+pub sort_key_eq-same : (a b : SortKey) → sort_key_eq a b ≡ true → a ≡ b
+sort_key_eq-same a b = (sort_key_eq-Decides a b).0
+
+pub sort_key_eq-refl : (a : SortKey) → sort_key_eq a a ≡ true
+sort_key_eq-refl a = (sort_key_eq-Decides a a).1 refl
+
 pub sort_cmp_total : IsTotalOrder sort_cmp
 sort_cmp_total = lists_total sort_key_cmp_total
 
@@ -107,6 +119,12 @@ sort_cmp-same = lists_apart sort_key_cmp-same
 
 pub sort_eq-Decides : (a b : List SortKey) → Decides (sort_eq a b) (a ≡ b)
 sort_eq-Decides = decided sort_cmp_total sort_cmp-same
+
+pub sort_eq-same : (a b : List SortKey) → sort_eq a b ≡ true → a ≡ b
+sort_eq-same a b = (sort_eq-Decides a b).0
+
+pub sort_eq-refl : (a : List SortKey) → sort_eq a a ≡ true
+sort_eq-refl a = (sort_eq-Decides a a).1 refl
 
 -- ---- ends
 
@@ -145,3 +163,9 @@ end_cmp-same (At k i) (At l j) e =
 
 pub end_eq-Decides : (a b : End) → Decides (end_eq a b) (a ≡ b)
 end_eq-Decides = decided end_cmp_total end_cmp-same
+
+pub end_eq-same : (a b : End) → end_eq a b ≡ true → a ≡ b
+end_eq-same a b = (end_eq-Decides a b).0
+
+pub end_eq-refl : (a : End) → end_eq a a ≡ true
+end_eq-refl a = (end_eq-Decides a a).1 refl
