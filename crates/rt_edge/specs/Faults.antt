@@ -5,6 +5,10 @@ use Rattle.std.specs.Prelude.{◌≡◌, ℕ, ◌+◌, ◌-◌, ◌^◌, ◌≤�
 abbrev pub most_faults : ℕ
 most_faults = 2 ^ 64 - 1
 
+-- the count after one more, which stands still at its greatest number
+abbrev pub one_more : ℕ → ℕ
+one_more count = min (count + 1) most_faults
+
 -- the count rose, or stands at its greatest number
 abbrev pub Rose : ℕ → ℕ → Type 0
 Rose before now = min (before + 1) most_faults ≤ now
