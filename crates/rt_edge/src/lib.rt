@@ -22,3 +22,6 @@ pub use std_streams::{StdSink, StdSource};
 /// Memory was wanting.
 #[derive(Clone, Copy, Debug, PartialEq, Eq)]
 pub struct NoMemory;
+
+#[cfg(test)]
+mod tests;

@@ -7,7 +7,6 @@ use crate::NoMemory;
 use crate::fails::is_listed;
 use crate::sink::Sink;
 use crate::source::Failed;
-
 use std::alloc::Global;
 use std::marker::Model;
 

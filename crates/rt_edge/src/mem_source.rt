@@ -6,7 +6,6 @@ ghost use Rattle.rt_edge.specs.MemSource.{given_count, after_giving, after_faile
 
 use crate::fails::is_listed;
 use crate::source::{Failed, Source};
-
 use std::marker::Model;
 
 /// Gives bytes from memory, a piece at a time, and fails at chosen reads. It is for tests.

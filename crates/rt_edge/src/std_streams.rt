@@ -5,7 +5,6 @@ ghost use Rattle.rt_edge.specs.Faults.{HasCause, IsKept, one_more};
 
 use crate::sink::Sink;
 use crate::source::{Failed, Source};
-
 use std::io::{Read, Stdin, Stdout, Write};
 use std::marker::Model;
 
