@@ -1,5 +1,5 @@
 -- When a fault of the outside may be told.
-use Rattle.std.specs.Prelude.{◌≡◌, ℕ, ◌+◌, ◌-◌, ◌^◌, ◌≤◌, min, List, Option, Some, None, Result, OnErr}
+use Rattle.std.specs.Prelude.{◌≡◌, ℕ, ◌+◌, ◌-◌, ◌^◌, ◌≤◌, min, List, Option, Result, OnErr}
 
 -- the greatest number of a count of faults, at which it stands still
 abbrev pub most_faults : ℕ

@@ -1,5 +1,5 @@
 -- A sink that holds its bytes in memory.
-use Rattle.std.specs.Prelude.{◌≡◌, ℕ, ◌+◌, ◌-◌, ◌^◌, ◌≤◌, ◌⊎◌, min, List, ◌++◌, length, take, Contains}
+use Rattle.std.specs.Prelude.{ℕ, ◌-◌, ◌≤◌, ◌⊎◌, min, List, ◌++◌, length, Contains}
 use Rattle.rt_edge.specs.Faults.{one_more}
 
 -- what a sink in memory is seen as

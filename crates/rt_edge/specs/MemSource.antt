@@ -1,5 +1,5 @@
 -- A source that gives bytes from memory.
-use Rattle.std.specs.Prelude.{◌≡◌, ℕ, ◌+◌, ◌-◌, ◌^◌, min, List, ◌++◌, length, take, drop}
+use Rattle.std.specs.Prelude.{ℕ, min, List, length, drop}
 use Rattle.rt_edge.specs.Faults.{one_more}
 
 -- what a source in memory is seen as

@@ -8,7 +8,9 @@ use crate::source::{Failed, Source};
 use std::io::{Read, Stdin, Stdout, Write};
 use std::marker::Model;
 
-/// The standard input of the process. Contracts see how many reads have failed.
+/// The standard input of the process. Contracts see how many reads have failed, and none of its bytes.
+///
+/// The count stands still at 2^64 - 1.
 #[derive(Drop)]
 pub struct StdSource {
     input: Stdin,
@@ -57,7 +59,10 @@ impl Source for StdSource {
     }
 }
 
-/// The standard output of the process. Contracts see how many writes and flushes have failed.
+/// The standard output of the process. Contracts see how many writes and flushes have failed, and none of its
+/// bytes.
+///
+/// The count stands still at 2^64 - 1.
 #[derive(Drop)]
 pub struct StdSink {
     output: Stdout,

@@ -1,9 +1,12 @@
+ghost use Rattle.std.specs.Prelude.{◌<◌, length};
+
 use super::*;
+use std::process::Abort;
 use std::test::Fail;
 
 // The bytes of the next read.
 fn next<'a, S: Source>(source: &mut S, into: &'a mut [u8]) -> Result<&'a [u8], Failed>
-    requires { 0 < length into.entry.now }
+    requires { 0 < length into.old }
 {
     let n = source.read(into)?;
     Ok(&into[..n])
@@ -47,53 +50,68 @@ fn a_source_gives_pieces_and_fails_where_told(rt: HostRuntime) -> Result<(), Fai
     Ok(())
 }
 
+// Writes a line piece by piece, going on behind what was taken.
+fn write_line<S: Sink>(
+    rt: &impl Abort,
+    sink: &mut S,
+    line: &[u8],
+    answers: &[Result<usize, Failed>],
+) {
+    let mut at = 0;
+    for want in answers {
+        assert!(rt; at < line.len());
+        let answer = sink.write(&line[at..]);
+        assert_eq!(rt; answer, *want);
+        at += answer.unwrap_or(0);
+    }
+    assert_eq!(rt; sink.flush(), Ok(()));
+}
+
+// A sink for which there is memory.
+fn ample_sink(rt: &HostRuntime, room: u32, piece: u32, fails: &[u32]) -> Result<MemSink, Fail>
+    requires { 0 < piece }
+{
+    let fails = fails.to_vec(rt.alloc())?;
+    Ok(
+        MemSink::new(rt.alloc(), room, piece, fails)
+            .ok()
+            .ok_or("no memory")?,
+    )
+}
+
 #[test]
 fn a_sink_holds_pieces_and_fails_where_told(rt: HostRuntime) -> Result<(), Fail> {
-    let line = b"{\"acquired\":0,\"finished\":1}";
-    let cases: [(u32, u32, &[u32], &[Result<usize, Failed>], &[u8]); 5] = [
-        (100, 10, &[1], &[Ok(10), Err(Failed)], b"{\"acquired"),
-        (0, 10, &[], &[Err(Failed), Err(Failed)], b""),
-        (
-            9,
-            4,
-            &[],
-            &[Ok(4), Ok(4), Ok(1), Err(Failed)],
-            b"{\"acquire",
-        ),
-        (
-            9,
-            2,
-            &[4, 0, 2],
-            &[Err(Failed), Ok(2), Err(Failed), Ok(2), Err(Failed)],
-            b"{\"ac",
-        ),
-        (
-            100,
-            100,
-            &[],
-            &[Ok(27), Ok(27)],
-            b"{\"acquired\":0,\"finished\":1}{\"acquired\":0,\"finished\":1}",
-        ),
-    ];
-    for (room, piece, fails, answers, held) in cases {
-        assert!(rt; 0 < piece);
-        let fails = fails.to_vec(rt.alloc())?;
-        let mut sink = MemSink::new(rt.alloc(), room, piece, fails)
-            .ok()
-            .ok_or("memory")?;
-        let mut from = &line[..];
-        for want in answers {
-            let answer = sink.write(from);
-            assert_eq!(rt; answer, *want, "room {room}, piece {piece}");
-            if let Ok(n) = answer
-                && n < from.len()
-            {
-                from = &from[n..];
-            }
-        }
-        assert_eq!(rt; sink.flush(), Ok(()));
-        assert_eq!(rt; sink.bytes(), held, "room {room}, piece {piece}");
-    }
+    let failed = Err(Failed);
+    let mut sink = ample_sink(&rt, 100, 10, &[1])?;
+    write_line(&rt, &mut sink, b"{\"acquired\":0}", &[Ok(10), failed]);
+    assert_eq!(rt; sink.bytes(), b"{\"acquired".as_slice());
+
+    let mut sink = ample_sink(&rt, 0, 10, &[])?;
+    write_line(&rt, &mut sink, b"abc", &[failed, failed]);
+    assert_eq!(rt; sink.bytes(), b"".as_slice());
+
+    let mut sink = ample_sink(&rt, 9, 4, &[])?;
+    write_line(
+        &rt,
+        &mut sink,
+        b"abcdefghijkl",
+        &[Ok(4), Ok(4), Ok(1), failed],
+    );
+    assert_eq!(rt; sink.bytes(), b"abcdefghi".as_slice());
+
+    let mut sink = ample_sink(&rt, 9, 2, &[4, 0, 2])?;
+    write_line(
+        &rt,
+        &mut sink,
+        b"abcdefghijkl",
+        &[failed, Ok(2), failed, Ok(2), failed, Ok(2)],
+    );
+    assert_eq!(rt; sink.bytes(), b"abcdef".as_slice());
+
+    let mut sink = ample_sink(&rt, 100, 100, &[])?;
+    write_line(&rt, &mut sink, b"abc", &[Ok(3)]);
+    write_line(&rt, &mut sink, b"de", &[Ok(2)]);
+    assert_eq!(rt; sink.bytes(), b"abcde".as_slice());
     Ok(())
 }
 
