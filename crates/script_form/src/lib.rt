@@ -3,6 +3,7 @@
 
 mod config;
 mod lines;
+mod requests;
 mod script;
 
 pub use config::{Config, ConfigFault, ConfigRefusal, WarmSetting, read_config};
