@@ -4,6 +4,7 @@ ghost use Rattle.serde_json.specs.Data.{object};
 ghost use Rattle.serde_json.specs.View.{view};
 ghost use Rattle.serde_json.specs.Written.{compact_text, has_float};
 ghost use Rattle.field_schema.specs.declared.field.FieldList.TheVariants as FieldList;
+ghost use Rattle.doc_model.specs.ReadDoc.{is_no_memory};
 ghost use Rattle.search_model.specs.Messages.{doc_message};
 ghost use Rattle.search_model.specs.Reply.{docs_items, found_object, header, refused_data};
 
@@ -42,7 +43,8 @@ pub(crate) fn found_value(
     found: u32,
     start: u32,
 ) -> Result<Value, AllocError>
-    ensures { IfOk result (λ v. view v ≡ found_object (view docs) found start) }
+    ensures reply { IfOk result (λ v. view v ≡ found_object (view docs) found start) }
+    ensures whole { has_float (view docs) ≡ false → IfOk result (λ v. has_float (view v) ≡ false) }
 {
     json!(in alloc; {
         "response": {"docs": docs, "numFound": found, "numFoundExact": true, "start": start},
@@ -56,7 +58,8 @@ pub(crate) fn docs_value(
     schema: &Schema,
     docs: &[Arc<Doc>],
 ) -> Result<Value, NoMemory>
-    ensures { IfOk result (λ v. view v ≡ docs_items schema.now FieldList.All (map arc_value docs.now)) }
+    ensures docs { IfOk result (λ v. view v ≡ docs_items schema.now FieldList.All (map arc_value docs.now)) }
+    ensures whole { IfOk result (λ v. has_float (view v) ≡ false) }
 {
     let mut values = Vec::with_capacity(alloc, docs.len())?;
     for doc in docs {
@@ -65,9 +68,10 @@ pub(crate) fn docs_value(
     Ok(Value::Array(values))
 }
 
-/// The message of a document's fault.
+/// The message of a document's fault, which is not want of memory.
 pub(crate) fn doc_message_text(alloc: Global, fault: &DocFault) -> Result<Text, NoMemory>
-    ensures { IfOk result (λ t. t ≡ doc_message fault.now) }
+    ensures fault { OnOk result (is_no_memory fault.now ≡ false) }
+    ensures message { IfOk result (λ t. t ≡ doc_message fault.now) }
 {
     let text = match fault {
         DocFault::NotObject => String::from_str(alloc, "NotObject")?,
@@ -85,7 +89,7 @@ pub(crate) fn doc_message_text(alloc: Global, fault: &DocFault) -> Result<Text, 
             format!(in alloc; "ManyValues {field}")?
         }
         DocFault::TooLong { bytes } => format!(in alloc; "TooLong {bytes}")?,
-        DocFault::NoMemory => String::from_str(alloc, "NoMemory")?,
+        DocFault::NoMemory => return Err(NoMemory),
     };
     Ok(Text::new(text))
 }

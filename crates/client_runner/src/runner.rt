@@ -17,7 +17,7 @@ use crate::reply::{
 };
 use crate::rows::{RequestRow, SearcherRow, Verb};
 use crate::search::first_matches;
-use doc_model::{Doc, DocFault};
+use doc_model::Doc;
 use field_schema::{FieldNo, NoMemory, Schema, Text};
 use script_form::query_term;
 use std::alloc::Global;
@@ -179,7 +179,6 @@ impl Runner {
     {
         match Doc::read(alloc, schema, body) {
             Ok(doc) => self.accept(alloc, schema, head, doc),
-            Err(DocFault::NoMemory) => Err(NoMemory),
             Err(fault) => {
                 let message = doc_message_text(alloc, &fault)?;
                 self.refuse(alloc, schema, head, message.get())

@@ -44,6 +44,7 @@ pub(crate) fn first_matches(
     most: u32,
 ) -> Result<(Vec<Arc<Doc>>, usize), NoMemory>
     ensures found { IfOk result (λ r. r.1 ≡ length (filter (λ d. top d (Term field (Key.Str word.now))) (map arc_value docs.now))) }
+    ensures within { IfOk result (λ r. r.1 ≤ length docs.now) }
     ensures docs { IfOk result (λ r. map arc_value r.0.items ≡ take most (filter (λ d. top d (Term field (Key.Str word.now))) (map arc_value docs.now))) }
 {
     let mut first = Vec::new(alloc);
