@@ -4,3 +4,6 @@ pub mod Stands
 pub mod Bounded
 pub mod JournalGrows
 pub mod Served
+pub mod Counted
+pub mod Lives
+pub mod Tickets
