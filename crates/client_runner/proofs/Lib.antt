@@ -7,3 +7,4 @@ pub mod Served
 pub mod Counted
 pub mod Lives
 pub mod Tickets
+pub mod SerialLawful

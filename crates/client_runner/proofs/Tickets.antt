@@ -50,7 +50,7 @@ warmed s st (flushing q ∷ ts) = warmed s (behind s st (flushing q)) ts
 warmed s st (opening q ∷ ts) = (st.current.generation, st.current.acquired) ∷ warmed s (behind s st (opening q)) ts
 warmed s st (asking q asked ∷ ts) = warmed s (behind s st (asking q asked)) ts
 
-no_pin_is : (verb : Verb) → (if is_query verb then None {A = ℕ × ℕ} else None) ≡ None
+no_pin_is : (verb : Verb) → ◌≡◌ {A = Option (ℕ × ℕ)} (if is_query verb then None else None) None
 no_pin_is add = refl
 no_pin_is delete = refl
 no_pin_is query = refl

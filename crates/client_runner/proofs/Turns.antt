@@ -127,6 +127,9 @@ asked_in_as commit s q = asked_in_commit s q (commit_of q.body)
     asked_in_commit s q (Ok form) = asked_in_form s q form.opens
     asked_in_commit s q (Err message) = refl
 
+pub asked_in_is : (s : Fields) (q : Request) → asked_in (turn_of s q) ≡ q
+asked_in_is s q = asked_in_as q.verb s q
+
 -- ---- the run
 
 -- the request of a turn and its row
