@@ -1,13 +1,13 @@
 -- The rows before a standing lie below its place, and those behind it do not.
-use Rattle.std.proofs.Common.{◌≡◌, ℕ, ◌+◌, ◌<◌, ◌≤◌, min, max, List, [], ◌∷◌, ◌++◌, fold, flat_map, filter_map, Bool, true, false, ◌==◌, ◌||◌, nat_lt, if◌then◌else◌, Option, Some, None, IfSome, option_to_list, option_and_then, refl, sym, ap, subst, ◌∙◌, ◌⊎◌, inl, inr, arith, le_refl}
+use Rattle.std.proofs.Common.{◌≡◌, ℕ, ◌<◌, ◌≤◌, min, max, List, [], ◌∷◌, ◌++◌, fold, flat_map, filter_map, Bool, true, false, ◌==◌, ◌||◌, nat_lt, if◌then◌else◌, Option, Some, None, IfSome, option_to_list, option_and_then, arith}
 use Rattle.std.specs.List.{AllByRecursion, cons_option}
 use Rattle.field_schema.specs.Schema.{Fields}
 use Rattle.run_laws.specs.Rows.{Verb, add, delete, query, commit, SearcherRow}
 use Rattle.run_laws.specs.Requests.{Told}
-use Rattle.run_laws.specs.Bounds.{is_commit, is_query, opened_by, end_opened_by, waits, sets_below, sets_above, low, high}
+use Rattle.run_laws.specs.Bounds.{is_commit, is_query, end_opened_by, waits, sets_below, sets_above, low, high}
 use Rattle.run_laws.specs.Lawful.{pin_of, pins, IsBehind}
 use Rattle.client_runner.specs.Serial.{Standing}
-use Rattle.client_runner.proofs.Turns.{Turn, refusing, changing, flushing, opening, asking, behind, told_in, told_from}
+use Rattle.client_runner.proofs.Turns.{Turn, refusing, changing, flushing, opening, asking, behind, told_from}
 
 -- ---- each element
 
@@ -101,7 +101,6 @@ all_past_more ss p g k q h l before e up on past here =
 
 sets_below_past : (ss : List SearcherRow) (p g k : ℕ) (t e : Told) → IsPast ss p g k e → AllByRecursion (λ x. x < p) (sets_below ss t e)
 sets_below_past ss p g k t e past =
-    let P : ℕ → Type 0 = λ x. x < p in
     let own : AllByRecursion (λ x. x < p) (option_to_list e.row.place) = all_option (λ x. x < p) e.row.place past.place in
     let ends : AllByRecursion (λ x. x < p) (option_to_list (end_opened_by ss e)) = all_option (λ x. x < p) (end_opened_by ss e) past.end in
     all_if (λ x. x < p) (nat_lt e.asked.phase t.asked.phase) _ _ (all_append (λ x. x < p) (option_to_list e.row.place) _ own ends)

@@ -1,5 +1,5 @@
 -- Each place of the journal of a serial run is taken once.
-use Rattle.std.proofs.Common.{◌≡◌, ℕ, zero, suc, ◌+◌, ◌<◌, ◌≤◌, List, [], ◌∷◌, ◌++◌, length, map, take, count_by, sum_by, filter_map, Bool, true, false, cond, ◌&&◌, ◌==◌, eqb, leb, ltb, Option, Some, None, refl, sym, ap, subst, ◌∙◌, arith, length-append}
+use Rattle.std.proofs.Common.{◌≡◌, ℕ, zero, suc, ◌+◌, ◌<◌, ◌≤◌, List, [], ◌∷◌, ◌++◌, length, map, take, count_by, filter_map, cond, ◌&&◌, ◌==◌, eqb, leb, ltb, refl, ap, arith, length-append}
 use Rattle.std.proofs.lemmas.Bool.Decides.{nat_tests}
 use Rattle.std.proofs.lemmas.List.Sums.{sum_by-append, sum_by-cons}
 use Rattle.std.specs.List.{AllByRecursion}
@@ -8,7 +8,7 @@ use Rattle.run_laws.specs.Rows.{RequestRow, SearcherRow, Output}
 use Rattle.run_laws.specs.Requests.{Told}
 use Rattle.run_laws.specs.Places.{count_up, places, place_count}
 use Rattle.run_laws.specs.Lawful.{CountsOff}
-use Rattle.client_runner.specs.Serial.{Standing, start, first_searcher}
+use Rattle.client_runner.specs.Serial.{Standing, start}
 use Rattle.client_runner.proofs.Turns.{Turn, refusing, changing, flushing, opening, asking, behind, told_from, searchers_from, end_of}
 use Rattle.client_runner.proofs.Stands.{Splits, splits, place_grows}
 
@@ -71,7 +71,6 @@ places_once s st [] k =
     omega arith
 places_once s st (refusing q message ∷ ts) k = places_once s (behind s st (refusing q message)) ts k
 places_once s st (changing q change ∷ ts) k =
-    let on : Standing = behind s st (changing q change) in
     let grows : st.place + 1 ≤ (end_of s (behind s st (changing q change)) ts).place = place_grows s (behind s st (changing q change)) ts in
     rw (times-cons k st.place (taken s (behind s st (changing q change)) ts)) (add_one k (times k (ends s (behind s st (changing q change)) ts)) (times k (taken s (behind s st (changing q change)) ts)) (once st.current.ended k) st.place (end_of s (behind s st (changing q change)) ts).place (omega arith) (places_once s (behind s st (changing q change)) ts k))
 places_once s st (flushing q ∷ ts) k =

@@ -1,18 +1,18 @@
 -- The lives of the searchers of a serial run: each is opened once, warmed from the one before, and serves.
-use Rattle.std.proofs.Common.{◌≡◌, ℕ, zero, suc, ◌+◌, ◌-◌, ◌<◌, ◌≤◌, List, [], ◌∷◌, ◌++◌, length, map, drop, count_by, Bool, true, false, cond, ◌&&◌, eqb, leb, nat_le, Option, Some, None, IsSome, IfSome, refl, sym, ap, subst, ◌∙◌, arith, append_assoc, le_refl, zero-add}
+use Rattle.std.proofs.Common.{◌≡◌, ℕ, ◌+◌, ◌-◌, ◌<◌, ◌≤◌, List, [], ◌∷◌, ◌++◌, length, map, drop, count_by, Bool, true, false, cond, ◌&&◌, eqb, nat_le, refl, sym, ap, subst, ◌∙◌, arith, append_assoc, le_refl, zero-add}
 use Rattle.std.proofs.lemmas.Bool.{ne_eqb, eq-eqb, le-leb}
 use Rattle.std.proofs.lemmas.List.Sums.{sum_by-cons}
 use Rattle.std.specs.List.{AllByRecursion}
 use Rattle.field_schema.specs.Schema.{Fields}
-use Rattle.run_laws.specs.Rows.{Verb, add, delete, query, commit, RequestRow, SearcherRow, Output}
+use Rattle.run_laws.specs.Rows.{SearcherRow, Output}
 use Rattle.run_laws.specs.Requests.{Told}
-use Rattle.run_laws.specs.Places.{count_up, is_some_of, last_registered, current_at}
+use Rattle.run_laws.specs.Places.{count_up, is_some_of, current_at}
 use Rattle.run_laws.specs.Bounds.{is_commit}
-use Rattle.run_laws.specs.Lawful.{opens, IsOpenedOnce, BeginsWithFirst, Ascends, ServesUnlessOlder, IsWarmedFrom, IsWarmed, TellsWarmings}
+use Rattle.run_laws.specs.Lawful.{opens, IsOpenedOnce, BeginsWithFirst, Ascends, ServesUnlessOlder, IsWarmed}
 use Rattle.client_runner.specs.Serial.{Standing, start, acquired_once_more, next_searcher}
-use Rattle.client_runner.proofs.Turns.{Turn, refusing, changing, flushing, opening, asking, behind, told_in, told_from, searchers_from, end_of, IsTurn}
-use Rattle.client_runner.proofs.Chains.{IsNext, Chain, none_registered}
-use Rattle.client_runner.proofs.Stands.{Stands, stands_on, Splits, splits, current_now, chain_now}
+use Rattle.client_runner.proofs.Turns.{Turn, refusing, changing, flushing, opening, asking, behind, told_in, told_from, searchers_from, IsTurn}
+use Rattle.client_runner.proofs.Chains.{IsNext, Chain}
+use Rattle.client_runner.proofs.Stands.{Stands, stands_on, Splits, splits, current_now}
 use Rattle.client_runner.proofs.Bounded.{all_weaker}
 
 -- ---- opened by one commit
@@ -48,8 +48,8 @@ once_here : (t : Told) (ts : List Told) (x : SearcherRow) → opens x.generation
 once_here t ts x e f none l = record {
   once = count_one (opens x.generation) t ts e ∙ ap (λ (n : ℕ). 1 + n) (count_fails (opens x.generation) ts none);
   place =
-    count_one (λ y. opens x.generation y && is_some_of x.opened y.row.place) t ts (and_yes (opens x.generation t) (is_some_of x.opened t.row.place) e f)
-    ∙ ap (λ (n : ℕ). 1 + n) (count_fails (λ y. opens x.generation y && is_some_of x.opened y.row.place) ts
+      count_one (λ y. opens x.generation y && is_some_of x.opened y.row.place) t ts (and_yes (opens x.generation t) (is_some_of x.opened t.row.place) e f)
+      ∙ ap (λ (n : ℕ). 1 + n) (count_fails (λ y. opens x.generation y && is_some_of x.opened y.row.place) ts
       (all_weaker (λ y. opens x.generation y ≡ false) (λ y. (opens x.generation y && is_some_of x.opened y.row.place) ≡ false) (λ y. and_no (opens x.generation y) (is_some_of x.opened y.row.place)) ts none));
   before = l;
 }
@@ -78,21 +78,19 @@ opened_behind s st (refusing q message ∷ ts) i = behind_more (told_in s st (re
 opened_behind s st (changing q change ∷ ts) i = behind_more (told_in s st (changing q change)) _ st.current.generation st.current.generation (le_refl _) (λ n l. and_off (is_commit q.verb) false refl) (drop 1 (searchers_from s (behind s st (changing q change)) ts)) (opened_behind s (behind s st (changing q change)) ts i.1)
 opened_behind s st (flushing q ∷ ts) i = behind_more (told_in s st (flushing q)) _ st.current.generation st.current.generation (le_refl _) (λ n l. and_off (is_commit q.verb) false refl) (drop 1 (searchers_from s (behind s st (flushing q)) ts)) (opened_behind s (behind s st (flushing q)) ts i.1)
 opened_behind s st (opening q ∷ ts) i =
-    let on : Standing = behind s st (opening q) in
     let p : Splits s (behind s st (opening q)) ts = splits s (behind s st (opening q)) ts in
-    let new : SearcherRow = record (next_searcher st) { acquired = p.acquired } in
-    let t : Told = told_in s st (opening q) in
     let rest : AllByRecursion (IsOpenedBehind (told_from s (behind s st (opening q)) ts) (st.current.generation + 1)) p.tail =
-          subst (λ (x : List SearcherRow). AllByRecursion (IsOpenedBehind (told_from s (behind s st (opening q)) ts) (st.current.generation + 1)) (drop 1 x)) p.is (opened_behind s (behind s st (opening q)) ts i.1) in
+    subst (λ (x : List SearcherRow). AllByRecursion (IsOpenedBehind (told_from s (behind s st (opening q)) ts) (st.current.generation + 1)) (drop 1 x)) p.is (opened_behind s (behind s st (opening q)) ts i.1) in
     let here : IsOpenedOnce (told_in s st (opening q) ∷ told_from s (behind s st (opening q)) ts) (record (next_searcher st) { acquired = p.acquired }) =
-          once_here (told_in s st (opening q)) (told_from s (behind s st (opening q)) ts) (record (next_searcher st) { acquired = p.acquired })
-          (and_yes (is_commit q.verb) (eqb (st.current.generation + 1) (st.current.generation + 1)) (ap is_commit i.0.0) (eq-eqb (st.current.generation + 1) (st.current.generation + 1) refl))
-          (eq-eqb st.place st.place refl)
-          (none_opens s (behind s st (opening q)) ts (st.current.generation + 1) i.1 (le_refl _)) (omega arith) in
-    subst (λ (x : List SearcherRow). AllByRecursion (IsOpenedBehind (told_from s st (opening q ∷ ts)) st.current.generation) x) (sym p.is)
-    (record { once = here; above = omega arith },
-     behind_more (told_in s st (opening q)) (told_from s (behind s st (opening q)) ts) (st.current.generation + 1) st.current.generation (omega arith)
-     (λ n l. and_off (is_commit q.verb) (eqb n (st.current.generation + 1)) (ne_eqb n (st.current.generation + 1) (λ e. absurd (omega arith)))) p.tail rest)
+    once_here (told_in s st (opening q)) (told_from s (behind s st (opening q)) ts) (record (next_searcher st) { acquired = p.acquired })
+    (and_yes (is_commit q.verb) (eqb (st.current.generation + 1) (st.current.generation + 1)) (ap is_commit i.0.0) (eq-eqb (st.current.generation + 1) (st.current.generation + 1) refl))
+    (eq-eqb st.place st.place refl)
+    (none_opens s (behind s st (opening q)) ts (st.current.generation + 1) i.1 (le_refl _)) (omega arith) in
+    subst (λ (x : List SearcherRow). AllByRecursion (IsOpenedBehind (told_from s st (opening q ∷ ts)) st.current.generation) x) (sym p.is) (
+      record { once = here; above = omega arith },
+      behind_more (told_in s st (opening q)) (told_from s (behind s st (opening q)) ts) (st.current.generation + 1) st.current.generation (omega arith)
+          (λ n l. and_off (is_commit q.verb) (eqb n (st.current.generation + 1)) (ne_eqb n (st.current.generation + 1) (λ e. absurd (omega arith)))) p.tail rest,
+    )
 opened_behind s st (asking q asked ∷ ts) i = behind_more (told_in s st (asking q asked)) _ st.current.generation st.current.generation (le_refl _) (λ n l. and_no (is_commit q.verb) (eqb n st.current.generation) (ap is_commit i.0.0)) (drop 1 (searchers_from s (behind s st (asking q asked)) ts)) (opened_behind s (behind s st (asking q asked)) ts i.1)
 
 pub opened_once : (s : Fields) (ts : List Turn) → AllByRecursion (IsTurn s) ts → AllByRecursion (IsOpenedOnce (told_from s start ts)) (drop 1 (searchers_from s start ts))
@@ -143,7 +141,8 @@ live_on s o st (opening q ∷ ts) h e =
     let back : st.place + 1 - 1 ≡ st.place = omega arith in
     let now : current_at (st.place + 1 - 1) o.searchers ≡ st.current.generation = ap (λ (x : ℕ). current_at x o.searchers) back ∙ current in
     let up : nat_le (current_at (st.place + 1 - 1) o.searchers) (st.current.generation + 1) ≡ true = le-leb (current_at (st.place + 1 - 1) o.searchers) (st.current.generation + 1) (omega arith) in
-    subst (λ (x : List SearcherRow). AllByRecursion (LivesOn o) x) (sym p.is)
-    (record { serves = sym up; warmed = (refl, (st.place, le_refl _, omega arith, current)) },
-     subst (λ (x : List SearcherRow). AllByRecursion (LivesOn o) (drop 1 x)) p.is rest)
+    subst (λ (x : List SearcherRow). AllByRecursion (LivesOn o) x) (sym p.is) (
+      record { serves = sym up; warmed = (refl, (st.place, le_refl _, omega arith, current)) },
+      subst (λ (x : List SearcherRow). AllByRecursion (LivesOn o) (drop 1 x)) p.is rest,
+    )
 live_on s o st (asking q asked ∷ ts) h e = live_on s o (behind s st (asking q asked)) ts (stands_on s st (asking q asked) h) e

@@ -1,6 +1,5 @@
 -- The output of every serial run is lawful.
-use Rattle.std.proofs.Common.{◌≡◌, ℕ, zero, suc, ◌+◌, ◌-◌, ◌<◌, ◌≤◌, List, [], ◌∷◌, ◌++◌, length, map, drop, take, fold, Bool, true, false, nat_le, Option, Some, None, IsSome, refl, sym, ap, ap₂, subst, ◌∙◌, arith, le_refl}
-use Rattle.std.proofs.lemmas.Bool.{le-leb}
+use Rattle.std.proofs.Common.{◌≡◌, ℕ, ◌+◌, ◌<◌, ◌≤◌, List, [], ◌∷◌, map, drop, take, fold, true, nat_le, refl, sym, ap, ap₂, subst, ◌∙◌, arith, le_refl}
 use Rattle.std.specs.List.{AllByRecursion}
 use Rattle.field_schema.specs.Schema.{Fields}
 use Rattle.search_model.specs.Live.{live, nothing}
@@ -10,10 +9,10 @@ use Rattle.script_form.specs.declared.config.Config.{Config}
 use Rattle.script_form.specs.declared.script.Line.{Line}
 use Rattle.run_laws.specs.Rows.{RequestRow, SearcherRow, Output}
 use Rattle.run_laws.specs.Requests.{Request, Told, requests_of, tell, Each}
-use Rattle.run_laws.specs.Places.{place_count, current_at, last_registered, journal, change_at}
+use Rattle.run_laws.specs.Places.{place_count, current_at, journal}
 use Rattle.run_laws.specs.Lawful.{Lawful, Shows, AnswersEach, IsOneHistory, KeepsOrder, IsAnswered, ServesUnlessOlder, CountsTickets, TellsWarmings, IsWarmed, asked_here, told_here}
-use Rattle.client_runner.specs.Serial.{Standing, start, first_searcher, step, output_at, serial_output, row_for}
-use Rattle.client_runner.proofs.Turns.{Turn, refusing, changing, flushing, opening, asking, asked_in, row_in, behind, told_in, told_from, searchers_from, end_of, turn_of, turns_of, turns_are, asked_in_is, fold_is, tell_is, rows_are, searchers_are, IsTurn}
+use Rattle.client_runner.specs.Serial.{Standing, start, step, output_at, serial_output}
+use Rattle.client_runner.proofs.Turns.{Turn, refusing, changing, flushing, opening, asking, asked_in, row_in, behind, told_from, searchers_from, end_of, turn_of, turns_of, turns_are, asked_in_is, fold_is, tell_is, rows_are, searchers_are, IsTurn}
 use Rattle.client_runner.proofs.Chains.{Chain, none_registered}
 use Rattle.client_runner.proofs.Stands.{Stands, Splits, splits, place_grows, chain_now}
 use Rattle.client_runner.proofs.Bounded.{all_weaker, ahead}
@@ -58,7 +57,7 @@ begins_empty s ts =
     let grows : 2 ≤ (end_of s start ts).place = place_grows s start ts in
     let count : (end_of s start ts).place ≡ place_count (ran s ts) = place_count_is s ts in
     let first : live s.key (take 1 (journal s (told_from s start ts) (ran s ts))) ≡ [] =
-          live_more s (told_from s start ts) (ran s ts) 0 [] nothing (omega arith) refl (change_ahead s 0 (told_from s start ts) (ahead s start ts 1 (omega arith))) in
+    live_more s (told_from s start ts) (ran s ts) 0 [] nothing (omega arith) refl (change_ahead s 0 (told_from s start ts) (ahead s start ts 1 (omega arith))) in
     live_more s (told_from s start ts) (ran s ts) 1 [] nothing (omega arith) first (change_ahead s 1 (told_from s start ts) (ahead s start ts 2 (le_refl _)))
 
 going_first : (c : Config) (ts : List Turn) → Going c (told_from c.schema start ts) (ran c.schema ts) [] start ts

@@ -1,25 +1,25 @@
 -- Each request of a serial run keeps the order and is answered as it must be.
-use Rattle.std.proofs.Common.{◌≡◌, ℕ, zero, suc, ◌+◌, ◌-◌, ◌<◌, ◌≤◌, List, [], ◌∷◌, ◌++◌, length, take, Bool, true, false, Option, Some, None, IfSome, Result, Ok, Err, refl, sym, ap, subst, ◌∙◌, ◌⊎◌, inl, inr, arith, append_assoc, le_refl}
+use Rattle.std.proofs.Common.{◌≡◌, ℕ, ◌+◌, ◌-◌, ◌<◌, ◌≤◌, List, [], ◌∷◌, ◌++◌, length, take, Bool, true, false, Option, Some, None, IfSome, Result, Ok, refl, sym, ap, subst, ◌∙◌, ◌⊎◌, inl, inr, arith, append_assoc, le_refl}
 use Rattle.std.specs.List.{AllByRecursion}
 use Rattle.std.specs.Option.{option_map_or}
 use Rattle.std.specs.Result.{result_unwrap_or}
 use Rattle.field_schema.specs.Schema.{Fields}
 use Rattle.doc_model.specs.Document.{Document}
-use Rattle.search_model.specs.Live.{Change, nothing, after, live, view_at}
+use Rattle.search_model.specs.Live.{Change, nothing, live, view_at}
 use Rattle.search_model.specs.Answer.{Asked, answer}
 use Rattle.search_model.specs.Reply.{Outcome, found, accepted, refused}
 use Rattle.script_form.specs.declared.config.Config.{Config}
-use Rattle.run_laws.specs.Rows.{Verb, add, delete, query, commit, RequestRow, SearcherRow, Output}
+use Rattle.run_laws.specs.Rows.{Verb, add, delete, query, commit, RequestRow, Output}
 use Rattle.run_laws.specs.Requests.{Request, Told, Each}
-use Rattle.run_laws.specs.Reading.{update_of, commit_of, query_of, CommitForm}
-use Rattle.run_laws.specs.Places.{places, place_count, opened_of, ended_of, current_at, warming, change_of, change_at, journal, view_of}
-use Rattle.run_laws.specs.Bounds.{low, high, end_opened_by}
-use Rattle.run_laws.specs.Lawful.{Shows, KeepsOrder, IsIdle, IsRefused, IsUpdated, UpdateIsAnswered, HasOpened, FormIsAnswered, CommitIsAnswered, WasCurrent, IsServed, QueryIsAnswered, IsAnsweredAs, IsAnswered, pins, pin_of, IsBehind}
-use Rattle.client_runner.specs.Serial.{Standing, acquired_once_more, next_searcher, row_for}
-use Rattle.client_runner.proofs.Turns.{Turn, refusing, changing, flushing, opening, asking, asked_in, row_in, behind, told_in, told_from, searchers_from, end_of, IsTurn, IsRefusal, Commits}
-use Rattle.client_runner.proofs.Chains.{Chain, none_warming}
+use Rattle.run_laws.specs.Reading.{update_of, commit_of, CommitForm}
+use Rattle.run_laws.specs.Places.{place_count, opened_of, ended_of, warming, change_of, change_at, journal, view_of}
+use Rattle.run_laws.specs.Bounds.{low, high}
+use Rattle.run_laws.specs.Lawful.{Shows, KeepsOrder, IsIdle, UpdateIsAnswered, HasOpened, FormIsAnswered, CommitIsAnswered, IsServed, QueryIsAnswered, IsAnsweredAs, IsAnswered, IsBehind}
+use Rattle.client_runner.specs.Serial.{Standing, acquired_once_more, row_for}
+use Rattle.client_runner.proofs.Turns.{Turn, refusing, changing, flushing, opening, asking, row_in, behind, told_in, told_from, searchers_from, end_of, IsTurn, IsRefusal}
+use Rattle.client_runner.proofs.Chains.{none_warming}
 use Rattle.client_runner.proofs.Stands.{Stands, stands_on, place_grows, current_now, opened_now, ended_now, chain_now}
-use Rattle.client_runner.proofs.Bounded.{IsPast, IsOnward, IsAhead, all_past_more, low_below, pins_past, ahead, high_above, no_end, end_some, no_pin, pin_some, all_weaker, all_append, some_weaker}
+use Rattle.client_runner.proofs.Bounded.{IsPast, IsOnward, all_past_more, low_below, pins_past, ahead, high_above, no_end, end_some, no_pin, pin_some, all_weaker, all_append, some_weaker}
 use Rattle.client_runner.proofs.JournalGrows.{change_past, change_ahead, change_here, live_more}
 
 -- what is true of the whole run where it stands behind some requests
@@ -64,7 +64,7 @@ module _ (c : Config) (all : List Told) (o : Output) (before : List Told) (st : 
     searchers = g.searchers;
     count = g.count;
     past = all_past_more o.searchers st.place _ _ st.place _ _ before (told_in c.schema st (refusing q message)) (le_refl _) onward_same g.past
-           (record { place = tt; end = no_end (λ x. ended_of x o.searchers) (λ x. x < st.place) q.verb; pin = no_pin (IsBehind st.current.generation st.current.acquired) q.verb });
+        (record { place = tt; end = no_end (λ x. ended_of x o.searchers) (λ x. x < st.place) q.verb; pin = no_pin (IsBehind st.current.generation st.current.acquired) q.verb });
     docs = g.docs;
     served = g.served;
   }
@@ -76,9 +76,9 @@ module _ (c : Config) (all : List Told) (o : Output) (before : List Told) (st : 
     searchers = g.searchers;
     count = g.count;
     past = all_past_more o.searchers st.place _ _ (st.place + 1) _ _ before (told_in c.schema st (changing q change)) (omega arith) onward_same g.past
-           (record { place = omega arith; end = no_end (λ x. ended_of x o.searchers) (λ x. x < st.place + 1) q.verb; pin = no_pin (IsBehind st.current.generation st.current.acquired) q.verb });
+        (record { place = omega arith; end = no_end (λ x. ended_of x o.searchers) (λ x. x < st.place + 1) q.verb; pin = no_pin (IsBehind st.current.generation st.current.acquired) q.verb });
     docs = let fits : st.place + 1 ≤ place_count o = room (changing q change) g in
-           live_more c.schema all o st.place st.docs change (omega arith) g.docs (change_next (changing q change) g refl ∙ ap (λ (r : Result Change (List ℕ)). result_unwrap_or r nothing) i.0);
+        live_more c.schema all o st.place st.docs change (omega arith) g.docs (change_next (changing q change) g refl ∙ ap (λ (r : Result Change (List ℕ)). result_unwrap_or r nothing) i.0);
     served = g.served;
   }
 
@@ -89,9 +89,9 @@ module _ (c : Config) (all : List Told) (o : Output) (before : List Told) (st : 
     searchers = g.searchers;
     count = g.count;
     past = all_past_more o.searchers st.place _ _ (st.place + 1) _ _ before (told_in c.schema st (flushing q)) (omega arith) onward_same g.past
-           (record { place = omega arith; end = no_end (λ x. ended_of x o.searchers) (λ x. x < st.place + 1) q.verb; pin = no_pin (IsBehind st.current.generation st.current.acquired) q.verb });
+        (record { place = omega arith; end = no_end (λ x. ended_of x o.searchers) (λ x. x < st.place + 1) q.verb; pin = no_pin (IsBehind st.current.generation st.current.acquired) q.verb });
     docs = let fits : st.place + 1 ≤ place_count o = room (flushing q) g in
-           live_more c.schema all o st.place st.docs nothing (omega arith) g.docs (change_next (flushing q) g refl ∙ commit_changes_nothing c.schema (told_in c.schema st (flushing q)) i.0);
+        live_more c.schema all o st.place st.docs nothing (omega arith) g.docs (change_next (flushing q) g refl ∙ commit_changes_nothing c.schema (told_in c.schema st (flushing q)) i.0);
     served = g.served;
   }
 
@@ -99,17 +99,16 @@ module _ (c : Config) (all : List Told) (o : Output) (before : List Told) (st : 
   change_at_end : (q : Request) → Going c all o before st (opening q ∷ ts) → change_at c.schema (st.place + 1) all ≡ nothing
   change_at_end q g =
       let lower : AllByRecursion (λ e. IfSome e.row.place (λ x. x < st.place + 1)) before =
-            all_weaker (IsPast o.searchers st.place st.current.generation st.current.acquired) (λ e. IfSome e.row.place (λ x. x < st.place + 1))
-            (λ e x. some_weaker (λ y. y < st.place) (λ y. y < st.place + 1) (λ y z. omega arith) e.row.place x.place) before g.past in
+      all_weaker (IsPast o.searchers st.place st.current.generation st.current.acquired) (λ e. IfSome e.row.place (λ x. x < st.place + 1))
+      (λ e x. some_weaker (λ y. y < st.place) (λ y. y < st.place + 1) (λ y z. omega arith) e.row.place x.place) before g.past in
       let here : st.place < st.place + 1 = omega arith in
       ap (change_at c.schema (st.place + 1)) (told_more (opening q) g.told)
       ∙ change_past c.schema (st.place + 1) (before ++ told_in c.schema st (opening q) ∷ []) (told_from c.schema (behind c.schema st (opening q)) ts)
-        (all_append (λ e. IfSome e.row.place (λ x. x < st.place + 1)) before (told_in c.schema st (opening q) ∷ []) lower (here, tt))
+      (all_append (λ e. IfSome e.row.place (λ x. x < st.place + 1)) before (told_in c.schema st (opening q) ∷ []) lower (here, tt))
       ∙ change_ahead c.schema (st.place + 1) (told_from c.schema (behind c.schema st (opening q)) ts) (ahead c.schema (behind c.schema st (opening q)) ts (st.place + 1 + 1) (omega arith))
 
   on_opening : (q : Request) → IsTurn c.schema (opening q) → Going c all o before st (opening q ∷ ts) → Going c all o (before ++ told_in c.schema st (opening q) ∷ []) (behind c.schema st (opening q)) ts
   on_opening q i g =
-      let next : Standing = behind c.schema st (opening q) in
       let stands : Stands (behind c.schema st (opening q)) = stands_on c.schema st (opening q) g.stands in
       let searchers : o.searchers ≡ (st.earlier ++ acquired_once_more st.current ∷ []) ++ searchers_from c.schema (behind c.schema st (opening q)) ts = g.searchers ∙ sym (append_assoc st.earlier (acquired_once_more st.current ∷ []) _) in
       let ended : ended_of (st.current.generation + 1) o.searchers ≡ Some (st.place + 1) = ended_now c.schema (behind c.schema st (opening q)) ts o.searchers stands searchers in
@@ -123,7 +122,7 @@ module _ (c : Config) (all : List Told) (o : Output) (before : List Told) (st : 
         searchers = searchers;
         count = g.count;
         past = all_past_more o.searchers st.place _ _ (st.place + 2) _ _ before (told_in c.schema st (opening q)) (omega arith) (record { generation = omega arith; ticket = λ e. absurd (omega arith) }) g.past
-               (record { place = omega arith; end = end_some (λ x. ended_of x o.searchers) (λ x. x < st.place + 2) (st.current.generation + 1) q.verb (subst (λ (x : Option ℕ). IfSome x (λ y. y < st.place + 2)) (sym ended) (omega arith)); pin = no_pin (IsBehind (st.current.generation + 1) 0) q.verb });
+            (record { place = omega arith; end = end_some (λ x. ended_of x o.searchers) (λ x. x < st.place + 2) (st.current.generation + 1) q.verb (subst (λ (x : Option ℕ). IfSome x (λ y. y < st.place + 2)) (sym ended) (omega arith)); pin = no_pin (IsBehind (st.current.generation + 1) 0) q.verb });
         docs = subst (λ (x : ℕ). live c.schema.key (take x (journal c.schema all o)) ≡ st.docs) two second;
         served = g.docs;
       }
@@ -138,7 +137,7 @@ module _ (c : Config) (all : List Told) (o : Output) (before : List Told) (st : 
         searchers = g.searchers;
         count = g.count;
         past = all_past_more o.searchers st.place _ _ st.place _ _ before (told_in c.schema st (asking q asked)) (le_refl _) (record { generation = le_refl _; ticket = λ e. omega arith }) g.past
-               (record { place = tt; end = end_some (λ x. ended_of x o.searchers) (λ x. x < st.place) st.current.generation q.verb (subst (λ (x : Option ℕ). IfSome x (λ y. y < st.place)) (sym ended) before_place); pin = pin_some (IsBehind st.current.generation (st.current.acquired + 1)) (st.current.generation, st.current.acquired) q.verb (le_refl _, λ e. omega arith) });
+            (record { place = tt; end = end_some (λ x. ended_of x o.searchers) (λ x. x < st.place) st.current.generation q.verb (subst (λ (x : Option ℕ). IfSome x (λ y. y < st.place)) (sym ended) before_place); pin = pin_some (IsBehind st.current.generation (st.current.acquired + 1)) (st.current.generation, st.current.acquired) q.verb (le_refl _, λ e. omega arith) });
         docs = g.docs;
         served = g.served;
       }

@@ -1,5 +1,5 @@
 -- What is true of the searchers wherever a serial run stands.
-use Rattle.std.proofs.Common.{◌≡◌, ℕ, ◌+◌, ◌<◌, ◌≤◌, List, [], ◌∷◌, ◌++◌, Bool, true, false, Option, Some, None, refl, sym, ap, subst, ◌∙◌, arith, le_refl}
+use Rattle.std.proofs.Common.{◌≡◌, ℕ, ◌+◌, ◌≤◌, List, [], ◌∷◌, ◌++◌, true, Some, refl, sym, ap, subst, ◌∙◌, arith, le_refl}
 use Rattle.field_schema.specs.Schema.{Fields}
 use Rattle.run_laws.specs.Rows.{SearcherRow}
 use Rattle.run_laws.specs.Places.{opened_of, ended_of, current_at}

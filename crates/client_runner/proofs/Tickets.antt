@@ -1,16 +1,14 @@
 -- The tickets of each searcher of a serial run count off.
-use Rattle.std.proofs.Common.{◌≡◌, ⊎_elim, ℕ, zero, suc, ◌+◌, ◌<◌, ◌≤◌, List, [], ◌∷◌, ◌++◌, length, filter_map, Bool, true, false, cond, eqb, ◌==◌, if◌then◌else◌, Option, Some, None, option_and_then, option_map, refl, sym, ap, ap₂, subst, ◌∙◌, arith, le_refl, length-append}
-use Rattle.std.proofs.lemmas.Bool.Decides.{nat_tests}
+use Rattle.std.proofs.Common.{◌≡◌, ⊎_elim, ℕ, ◌+◌, ◌<◌, List, [], ◌∷◌, ◌++◌, length, filter_map, Bool, true, false, cond, eqb, ◌==◌, if◌then◌else◌, Option, Some, None, refl, sym, ap, ap₂, subst, ◌∙◌, arith, length-append}
 use Rattle.std.proofs.lemmas.Bool.{ne_eqb, eq-eqb, cases_eq}
 use Rattle.std.proofs.lemmas.List.Elements.{filter_map-append}
 use Rattle.std.specs.List.{AllByRecursion, cons_option}
 use Rattle.field_schema.specs.Schema.{Fields}
-use Rattle.run_laws.specs.Rows.{Verb, add, delete, query, commit, SearcherRow, Output}
-use Rattle.run_laws.specs.Requests.{Told}
+use Rattle.run_laws.specs.Rows.{Verb, add, delete, query, commit, SearcherRow}
 use Rattle.run_laws.specs.Bounds.{is_query}
 use Rattle.run_laws.specs.Lawful.{CountsOff, pin_of, tickets_of, CountsTickets}
-use Rattle.client_runner.specs.Serial.{Standing, start, acquired_once_more, next_searcher}
-use Rattle.client_runner.proofs.Turns.{Turn, refusing, changing, flushing, opening, asking, behind, told_in, told_from, searchers_from, end_of, IsTurn}
+use Rattle.client_runner.specs.Serial.{Standing, start}
+use Rattle.client_runner.proofs.Turns.{Turn, refusing, changing, flushing, opening, asking, behind, told_from, searchers_from, IsTurn}
 use Rattle.client_runner.proofs.Bounded.{all_weaker}
 use Rattle.client_runner.proofs.Counted.{times, once, between, times-append, times-cons, between_first, between_none, between_within, all_counted, ran}
 
@@ -155,11 +153,12 @@ counts_query g a qs ws x c = ⊎_elim here other (cases_eq x.generation g)
         at : (h : ℕ) → h ≡ g → CountsBetween (of_generation h qs) (of_generation h ws) (cond (eqb h g) (a + 1) 0) x.acquired → CountsBetween (of_generation h ((g, a) ∷ qs)) (of_generation h ws) (cond (eqb h g) a 0) x.acquired
         at h e d =
             let d' : CountsBetween (of_generation g qs) (of_generation g ws) (a + 1) x.acquired =
-                  subst (λ (n : ℕ). CountsBetween (of_generation g qs) (of_generation g ws) n x.acquired) (from_here g (a + 1))
-                  (subst (λ (n : ℕ). CountsBetween (of_generation n qs) (of_generation n ws) (cond (eqb n g) (a + 1) 0) x.acquired) e d) in
+            subst (λ (n : ℕ). CountsBetween (of_generation g qs) (of_generation g ws) n x.acquired) (from_here g (a + 1))
+            (subst (λ (n : ℕ). CountsBetween (of_generation n qs) (of_generation n ws) (cond (eqb n g) (a + 1) 0) x.acquired) e d) in
             subst (λ (n : ℕ). CountsBetween (of_generation n ((g, a) ∷ qs)) (of_generation n ws) (cond (eqb n g) a 0) x.acquired) (sym e)
             (subst (λ (n : ℕ). CountsBetween (of_generation g ((g, a) ∷ qs)) (of_generation g ws) n x.acquired) (sym (from_here g a))
             (subst (λ (xs : List ℕ). CountsBetween xs (of_generation g ws) a x.acquired) (sym (of_this g a qs)) (counts_first (of_generation g qs) (of_generation g ws) a x.acquired d')))
+
     other : (x.generation ≡ g → ⊥) → CountsOn g a ((g, a) ∷ qs) ws x
     other n =
         subst (λ (m : ℕ). CountsBetween (of_generation x.generation ((g, a) ∷ qs)) (of_generation x.generation ws) m x.acquired) (sym (from_other x.generation g a n))
@@ -190,15 +189,14 @@ counts_on s st (refusing q message ∷ ts) = counts_on s (behind s st (refusing 
 counts_on s st (changing q change ∷ ts) = counts_on s (behind s st (changing q change)) ts
 counts_on s st (flushing q ∷ ts) = counts_on s (behind s st (flushing q)) ts
 counts_on s st (opening q ∷ ts) =
-    let qs : List (ℕ × ℕ) = queried s (behind s st (opening q)) ts in
-    let ws : List (ℕ × ℕ) = warmed s (behind s st (opening q)) ts in
-    let up : st.current.generation < st.current.generation + 1 = omega arith in
-    (counts_current st.current.generation st.current.acquired (queried s (behind s st (opening q)) ts) (warmed s (behind s st (opening q)) ts)
-     (of_none st.current.generation (queried s (behind s st (opening q)) ts) (queried_above s (behind s st (opening q)) ts st.current.generation up))
-     (of_none st.current.generation (warmed s (behind s st (opening q)) ts) (warmed_above s (behind s st (opening q)) ts st.current.generation up)),
-     all_both (λ x. st.current.generation < x.generation) (CountsOn (st.current.generation + 1) 0 (queried s (behind s st (opening q)) ts) (warmed s (behind s st (opening q)) ts)) (CountsOn st.current.generation st.current.acquired (queried s (behind s st (opening q)) ts) ((st.current.generation, st.current.acquired) ∷ warmed s (behind s st (opening q)) ts))
-     (counts_opening st.current.generation st.current.acquired (queried s (behind s st (opening q)) ts) (warmed s (behind s st (opening q)) ts))
-     (searchers_from s (behind s st (opening q)) ts) (generations_above s (behind s st (opening q)) ts st.current.generation up) (counts_on s (behind s st (opening q)) ts))
+    let up : st.current.generation < st.current.generation + 1 = omega arith in (
+      counts_current st.current.generation st.current.acquired (queried s (behind s st (opening q)) ts) (warmed s (behind s st (opening q)) ts)
+          (of_none st.current.generation (queried s (behind s st (opening q)) ts) (queried_above s (behind s st (opening q)) ts st.current.generation up))
+          (of_none st.current.generation (warmed s (behind s st (opening q)) ts) (warmed_above s (behind s st (opening q)) ts st.current.generation up)),
+      all_both (λ x. st.current.generation < x.generation) (CountsOn (st.current.generation + 1) 0 (queried s (behind s st (opening q)) ts) (warmed s (behind s st (opening q)) ts)) (CountsOn st.current.generation st.current.acquired (queried s (behind s st (opening q)) ts) ((st.current.generation, st.current.acquired) ∷ warmed s (behind s st (opening q)) ts))
+          (counts_opening st.current.generation st.current.acquired (queried s (behind s st (opening q)) ts) (warmed s (behind s st (opening q)) ts))
+          (searchers_from s (behind s st (opening q)) ts) (generations_above s (behind s st (opening q)) ts st.current.generation up) (counts_on s (behind s st (opening q)) ts),
+    )
 counts_on s st (asking q asked ∷ ts) =
     all_weaker (CountsOn st.current.generation (st.current.acquired + 1) (queried s (behind s st (asking q asked)) ts) (warmed s (behind s st (asking q asked)) ts)) (CountsOn st.current.generation st.current.acquired ((st.current.generation, st.current.acquired) ∷ queried s (behind s st (asking q asked)) ts) (warmed s (behind s st (asking q asked)) ts))
     (counts_query st.current.generation st.current.acquired (queried s (behind s st (asking q asked)) ts) (warmed s (behind s st (asking q asked)) ts))

@@ -1,18 +1,18 @@
 -- A serial run as a list of turns, each with what it does.
-use Rattle.std.proofs.Common.{◌≡◌, ℕ, zero, suc, ◌+◌, List, [], ◌∷◌, ◌++◌, fold, map, Bool, true, false, Option, Some, None, Result, Ok, Err, option_to_list, inl, inr, refl, ap₂, subst, ◌⊎◌, sym, ap, ◌∙◌, append_assoc, append-nil}
+use Rattle.std.proofs.Common.{◌≡◌, ℕ, ◌+◌, List, [], ◌∷◌, ◌++◌, fold, map, Bool, true, false, Some, None, Result, Ok, Err, option_to_list, inl, inr, refl, ap₂, subst, ◌⊎◌, sym, ap, ◌∙◌, append_assoc, append-nil}
 use Rattle.std.specs.List.{AllByRecursion}
 use Rattle.field_schema.specs.Schema.{Fields}
 use Rattle.search_model.specs.Live.{Change, after}
 use Rattle.search_model.specs.Answer.{Asked, answer}
-use Rattle.search_model.specs.Reply.{Outcome, found, accepted, refused}
+use Rattle.search_model.specs.Reply.{found, accepted, refused}
 use Rattle.script_form.specs.declared.config.Config.{Config}
 use Rattle.script_form.specs.declared.script.Line.{Line}
 use Rattle.script_form.specs.declared.script.What.{What}
 use Rattle.script_form.specs.declared.script.What.TheVariants as what
-use Rattle.run_laws.specs.Rows.{Verb, add, delete, query, commit, RequestRow, SearcherRow, Output}
+use Rattle.run_laws.specs.Rows.{Verb, add, delete, query, commit, RequestRow, SearcherRow}
 use Rattle.run_laws.specs.Requests.{Request, Told, request_as, phase_behind, requests_from, tell}
 use Rattle.run_laws.specs.Reading.{update_of, commit_of, query_of, CommitForm}
-use Rattle.client_runner.specs.Serial.{Standing, start, acquired_once_more, row_for, told_too, next_searcher, refuse, update, open_next, flush, by_form, commit_as, query_as, serve_as, serve, step, output_at}
+use Rattle.client_runner.specs.Serial.{Standing, acquired_once_more, row_for, told_too, next_searcher, update, by_form, commit_as, query_as, serve_as, serve, step}
 
 -- a request with what it does
 pub data Turn : Type 0 where
@@ -123,6 +123,7 @@ asked_in_as commit s q = asked_in_commit s q (commit_of q.body)
     asked_in_form : (s : Fields) (q : Request) (b : Bool) → asked_in (committing_by q b) ≡ q
     asked_in_form s q true = refl
     asked_in_form s q false = refl
+
     asked_in_commit : (s : Fields) (q : Request) (r : Result CommitForm (List ℕ)) → asked_in (committing q r) ≡ q
     asked_in_commit s q (Ok form) = asked_in_form s q form.opens
     asked_in_commit s q (Err message) = refl
