@@ -4,5 +4,8 @@
 #![tactic(auto)]
 
 mod laws;
+mod pending;
+mod rows;
 
 pub use laws::serial_runs_are_lawful;
+pub use rows::{Output, RequestRow, RequestRows, SearcherList, SearcherRow, Verb};
