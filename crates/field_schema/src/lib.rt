@@ -17,3 +17,6 @@ pub use memory::NoMemory;
 pub use schema::{Schema, SchemaFault};
 pub use text::{Text, Texts};
 pub use token::tokens;
+
+#[cfg(test)]
+mod tests;
