@@ -1,0 +1,10 @@
+//! The configuration and the script, read from the bytes of the input.
+#![tactic(auto)]
+
+mod config;
+mod lines;
+mod script;
+
+pub use config::{Config, ConfigFault, ConfigRefusal, WarmSetting, read_config};
+pub use lines::too_large;
+pub use script::{Line, LineFault, LineName, Script, ScriptRefusal, What, read_script};
