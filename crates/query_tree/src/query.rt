@@ -121,3 +121,40 @@ pub enum Query {
         not: Queries,
     },
 }
+
+impl Query {
+    /// An equal query. It costs the query's length, and a stack frame a level; parsed queries are at most 65 levels
+    /// deep.
+    #[cycle(copying)]
+    pub fn copy(&self, alloc: Global) -> Result<Query, NoMemory>
+        ensures { IfOk result (λ q. q ≡ self.now) }
+    {
+        match self {
+            Query::All => Ok(Query::All),
+            Query::Exists(field) => Ok(Query::Exists(*field)),
+            Query::Term(field, key) => Ok(Query::Term(*field, key.copy(alloc)?)),
+            Query::Words(field, words) => Ok(Query::Words(*field, words.copy(alloc)?)),
+            Query::Prefix(field, text) => Ok(Query::Prefix(*field, text.copy(alloc)?)),
+            Query::Range(field, low, high) => {
+                Ok(Query::Range(*field, low.copy(alloc)?, high.copy(alloc)?))
+            }
+            Query::Bool { must, should, not } => Ok(Query::Bool {
+                must: copy_queries(alloc, must.as_slice())?,
+                should: copy_queries(alloc, should.as_slice())?,
+                not: copy_queries(alloc, not.as_slice())?,
+            }),
+        }
+    }
+}
+
+// An equal list.
+#[cycle(copying)]
+fn copy_queries(alloc: Global, queries: &[Query]) -> Result<Queries, NoMemory>
+    ensures { IfOk result (λ qs. qs ≡ queries.now) }
+{
+    let mut items = Vec::with_capacity(alloc, queries.len())?;
+    for query in queries {
+        items.push(query.copy(alloc)?)?;
+    }
+    Ok(Items::from_vec(items))
+}
