@@ -1,5 +1,5 @@
 -- The steps of a comparison of two queries and of two lists of queries.
-use Rattle.std.proofs.Common.{◌≡◌, ℕ, zero, suc, ◌+◌, ◌<◌, ◌≤◌, min, Bool, true, false, List, [], ◌∷◌, length, get_or, drop, refl, ap, sym, ◌∙◌, arith}
+use Rattle.std.proofs.Common.{◌≡◌, ℕ, zero, suc, ◌+◌, ◌<◌, min, true, false, List, [], ◌∷◌, length, get_or, drop, refl, ap, sym, ◌∙◌, arith}
 use Rattle.std.specs.declared.cmp.Ordering.{Ordering}
 use Rattle.std.specs.declared.cmp.Ordering.TheVariants.{Less, Equal, Greater}
 use Rattle.std.specs.Ordering.{nat_cmp, ordering_then, is_ne}
@@ -8,8 +8,7 @@ use Rattle.std.specs.Cmp.Lexicographic.{slice_cmp}
 use Rattle.std.proofs.lemmas.List.{drop_more}
 use Rattle.std.proofs.lemmas.Bool.Decides.{nat_tests}
 use mathlib.Core.Bool.{true≢false}
-use Rattle.query_tree.specs.declared.query.Query.{Query, Query-F, out-Query}
-use Rattle.query_tree.specs.declared.query.Query.TheOpen as node
+use Rattle.query_tree.specs.declared.query.Query.{Query, out-Query}
 use Rattle.query_tree.specs.declared.query.Query.TheViews as query
 use Rattle.query_tree.specs.Order.{layer_cmp, query_cmp, queries_cmp}
 use Rattle.query_tree.specs.OrderLaws.{then_Equal}

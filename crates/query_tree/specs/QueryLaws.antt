@@ -1,19 +1,17 @@
 -- The laws of the order of queries.
-use Rattle.std.specs.Prelude.{◌≡◌, ℕ, ◌+◌, ◌≤◌, ◌==◌, List, [], ◌∷◌, map, Bool, true, false, refl}
+use Rattle.std.specs.Prelude.{◌≡◌, ℕ, ◌+◌, ◌≤◌, ◌==◌, List, [], ◌∷◌, map, true, refl}
 use Rattle.std.specs.Bool.{Decides}
 use Rattle.std.specs.Ordering.{nat_cmp, ordering_then, ordering_reverse, on, is_eq}
 use Rattle.std.specs.declared.cmp.Ordering.{Ordering}
-use Rattle.std.specs.declared.cmp.Ordering.TheVariants.{Less, Equal, Greater}
+use Rattle.std.specs.declared.cmp.Ordering.TheVariants.{Less, Equal}
 use Rattle.std.specs.Cmp.{IsTotalOrder, then_total, on_total, nat_cmp_total, unsigned_ties}
 use Rattle.std.specs.Cmp.Lexicographic.{slice_cmp, lists_total}
 use Rattle.std.proofs.Common.{zero, suc, max, arith}
 use mathlib.Core.Path.{ap, subst, ◌∙◌, sym}
 use mathlib.Core.Bool.{true≢false}
-use Rattle.field_schema.specs.declared.key.Key.{Key}
 use Rattle.field_schema.specs.Bytes.{texts_cmp}
 use Rattle.field_schema.specs.Keys.{key_cmp}
 use Rattle.field_schema.specs.Laws.{key_cmp_total, key_cmp-same, texts_cmp_total, texts_cmp_ties, texts_eq-same}
-use Rattle.query_tree.specs.declared.query.End.{End}
 use Rattle.query_tree.specs.declared.query.Query.{Query, Query-F, out-Query, roll-Query, out-roll-Query, roll-out-Query, fold-Query, fold_out-Query, fold-roll-Query, ind-Query, map-Query}
 use Rattle.query_tree.specs.declared.query.Query.TheOpen as node
 use Rattle.query_tree.specs.Order.{end_cmp, kind, field_of, keys_of, texts_of, ends_of, parts_of, layer_cmp, query_cmp, queries_cmp, query_eq, queries_eq}
