@@ -238,7 +238,7 @@ Told = (q : Query) × IsTold q
 layer_told : (y : Query-F Told) → IsTold (roll-Query (map-Query Told Query (λ e. e.0) y))
 layer_told y b e =
     let layers : layer_cmp (λ (e : Told) q. query_cmp e.0 q) y (out-Query b) ≡ Equal =
-        sym (query_cmp-roll (map-Query Told Query (λ e. e.0) y) b ∙ layer_cmp-map query_cmp (λ (e : Told). e.0) y (out-Query b)) ∙ e in
+    sym (query_cmp-roll (map-Query Told Query (λ e. e.0) y) b ∙ layer_cmp-map query_cmp (λ (e : Told). e.0) y (out-Query b)) ∙ e in
     ap roll-Query (layer_same (λ (e : Told). e.0) (λ e q. e.1 q) y (out-Query b) layers) ∙ roll-out-Query b
 
 pub query_cmp-same : TellsApart query_cmp

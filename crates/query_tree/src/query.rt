@@ -82,7 +82,13 @@ impl Ord for End {
             (End::Open, End::Open) => Ordering::Equal,
             (End::Open, End::At { .. }) => Ordering::Less,
             (End::At { .. }, End::Open) => Ordering::Greater,
-            (End::At { key, inclusive }, End::At { key: others, inclusive: included }) => key.cmp(others).then(inclusive.cmp(included)),
+            (
+                End::At { key, inclusive },
+                End::At {
+                    key: others,
+                    inclusive: included,
+                },
+            ) => key.cmp(others).then(inclusive.cmp(included)),
         }
     }
 }

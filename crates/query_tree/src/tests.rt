@@ -126,63 +126,77 @@ fn in_order(alloc: Global) -> Result<Vec<Query>, NoMemory> {
     Ok(queries)
 }
 
+// The first two values whose comparison, equality or hashes are not those of their places.
+fn first_misplaced<T: Ord + Hash>(values: &[T]) -> Option<(usize, usize)> {
+    for (i, value) in values.iter().enumerate() {
+        for (j, other) in values.iter().enumerate() {
+            let stands = value.cmp(other) == i.cmp(&j) && (value == other) == (i == j);
+            if !stands || alike(value, other) != (i == j) {
+                return Some((i, j));
+            }
+        }
+    }
+    None
+}
+
+fn alike<T: Ord + Hash>(value: &T, other: &T) -> bool {
+    value.partial_cmp(other) == Some(Ordering::Equal) && hash_of(value) == hash_of(other)
+}
+
 #[test]
 fn queries_stand_in_order(rt: HostRuntime) -> Result<(), Fail> {
-    let alloc = rt.alloc();
-    let queries = in_order(alloc)?;
+    let queries = in_order(rt.alloc())?;
     assert_eq!(rt; queries.len(), 1 + 3 + 24 + 8 + 8 + 34 + 12);
+    assert_eq!(rt; first_misplaced(queries.as_slice()), None);
     for (i, query) in queries.iter().enumerate() {
-        for (j, other) in queries.iter().enumerate() {
-            assert_eq!(rt; query.cmp(other), i.cmp(&j), "{i} by {j}");
-            assert_eq!(rt; query.partial_cmp(other), Some(i.cmp(&j)), "{i} by {j}");
-            assert_eq!(rt; query == other, i == j, "{i} is {j}");
-            assert_eq!(rt; hash_of(query) == hash_of(other), i == j, "hashes of {i} and {j}");
-        }
-        let copy = query.copy(alloc)?;
-        assert!(rt; copy == *query, "copy of {i}");
-        assert_eq!(rt; hash_of(&copy), hash_of(query), "hash of the copy of {i}");
+        assert!(rt; alike(&query.copy(rt.alloc())?, query), "copy of {i}");
     }
     Ok(())
 }
 
+// The query inside a Boolean one, as a required, an optional or a prohibited part.
+fn around(alloc: Global, query: Query, place: usize) -> Result<Query, NoMemory> {
+    let mut inner = Items::new(alloc);
+    inner.push(query)?;
+    let one = any(alloc, 1)?;
+    let none = Items::new(alloc);
+    let (must, should, not) = match place {
+        0 => (inner, one, none),
+        1 => (none, inner, one),
+        _ => (one, none, inner),
+    };
+    Ok(Query::Bool { must, should, not })
+}
+
 #[test]
 fn deep_query_is_copied(rt: HostRuntime) -> Result<(), Fail> {
-    let alloc = rt.alloc();
-    let mut query = Query::Term(0, Key::Str(text(alloc, "leaf")?));
-    for level in 0..65 {
-        let mut inner = Items::new(alloc);
-        inner.push(query)?;
-        let rest = any(alloc, level % 2)?;
-        let none = Items::new(alloc);
-        query = if level % 3 == 0 {
-            Query::Bool { must: inner, should: rest, not: none }
-        } else if level % 3 == 1 {
-            Query::Bool { must: none, should: inner, not: rest }
-        } else {
-            Query::Bool { must: rest, should: none, not: inner }
-        };
+    let mut query = Query::Term(0, Key::Long(1));
+    for level in 0..65usize {
+        query = around(rt.alloc(), query, level % 3)?;
     }
-    let copy = query.copy(alloc)?;
-    assert!(rt; copy == query);
-    assert_eq!(rt; copy.cmp(&query), Ordering::Equal);
-    assert_eq!(rt; hash_of(&copy), hash_of(&query));
+    let copy = query.copy(rt.alloc())?;
+    assert!(rt; alike(&copy, &query));
     assert!(rt; copy != Query::All);
     Ok(())
 }
 
 #[test]
 fn ends_and_sorts_stand_in_order(rt: HostRuntime) -> Result<(), Fail> {
-    let alloc = rt.alloc();
     let ends = [End::Open, at(-1, false), at(-1, true), at(0, false)];
+    assert_eq!(rt; first_misplaced(ends.as_slice()), None);
     for (i, end) in ends.iter().enumerate() {
-        for (j, other) in ends.iter().enumerate() {
-            assert_eq!(rt; end.cmp(other), i.cmp(&j), "end {i} by {j}");
-            assert_eq!(rt; end == other, i == j, "end {i} is {j}");
-        }
-        let copy = end.copy(alloc)?;
-        assert!(rt; copy == *end, "copy of end {i}");
-        assert_eq!(rt; hash_of(&copy), hash_of(end), "hash of end {i}");
+        assert!(rt; alike(&end.copy(rt.alloc())?, end), "copy of end {i}");
     }
+    let sorts = sorts(rt.alloc())?;
+    assert_eq!(rt; first_misplaced(sorts.as_slice()), None);
+    for (i, sort) in sorts.iter().enumerate() {
+        assert!(rt; alike(&sort.copy(rt.alloc())?, sort), "copy of sort {i}");
+    }
+    Ok(())
+}
+
+// Sorts, in their order.
+fn sorts(alloc: Global) -> Result<Vec<Sort>, NoMemory> {
     let mut sorts = Vec::new(alloc);
     sorts.push(Sort::new(Vec::new(alloc)))?;
     for by in [SortBy::Field(0), SortBy::Field(7), SortBy::DocId] {
@@ -192,14 +206,5 @@ fn ends_and_sorts_stand_in_order(rt: HostRuntime) -> Result<(), Fail> {
             sorts.push(Sort::new(Vec::from_slice(alloc, &[key, key])?))?;
         }
     }
-    for (i, sort) in sorts.iter().enumerate() {
-        for (j, other) in sorts.iter().enumerate() {
-            assert_eq!(rt; sort.cmp(other), i.cmp(&j), "sort {i} by {j}");
-            assert_eq!(rt; sort == other, i == j, "sort {i} is {j}");
-        }
-        let copy = sort.copy(alloc)?;
-        assert!(rt; copy == *sort, "copy of sort {i}");
-        assert_eq!(rt; hash_of(&copy), hash_of(sort), "hash of sort {i}");
-    }
-    Ok(())
+    Ok(sorts)
 }
