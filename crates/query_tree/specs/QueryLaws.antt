@@ -5,7 +5,7 @@ use Rattle.std.specs.Ordering.{nat_cmp, ordering_then, ordering_reverse, on, is_
 use Rattle.std.specs.declared.cmp.Ordering.{Ordering}
 use Rattle.std.specs.declared.cmp.Ordering.TheVariants.{Less, Equal}
 use Rattle.std.specs.Cmp.{IsTotalOrder, then_total, on_total, nat_cmp_total, unsigned_ties}
-use Rattle.std.specs.Cmp.Lexicographic.{slice_cmp, lists_total}
+use Rattle.std.specs.Cmp.Lexicographic.{slice_cmp, lists_total, pointwise, pointwise_decides}
 use Rattle.std.proofs.Common.{zero, suc, max, arith}
 use mathlib.Core.Path.{ap, subst, ◌∙◌, sym}
 use mathlib.Core.Bool.{true≢false}
@@ -271,3 +271,10 @@ queries_eq-same a b = (queries_eq-Decides a b).0
 
 pub queries_eq-refl : (a : List Query) → queries_eq a a ≡ true
 queries_eq-refl a = (queries_eq-Decides a a).1 refl
+
+-- slices of queries that `==` finds equal are one
+pub slices_eq-Decides : (a b : List Query) → Decides (pointwise query_eq a b) (a ≡ b)
+slices_eq-Decides = pointwise_decides query_eq-Decides
+
+pub slices_eq-same : (a b : List Query) → pointwise query_eq a b ≡ true → a ≡ b
+slices_eq-same a b = (slices_eq-Decides a b).0

@@ -1,12 +1,10 @@
-ghost use Rattle.std.specs.Prelude.{◌≡◌, IfOk, Some, refl};
+ghost use Rattle.std.specs.Prelude.{◌≡◌, IfOk, Some, refl, fold};
 ghost use Rattle.std.proofs.Common.{ap};
 ghost use Rattle.std.specs.Cmp.{eq_by_cmp_equiv, partial_equiv_from_equiv, po};
-ghost use Rattle.std.specs.Cmp.Lexicographic.{slice_cmp};
 ghost use Rattle.query_tree.specs.declared.query.Query.{out-Query};
 ghost use Rattle.query_tree.specs.Order.{end_cmp, end_eq, kind, query_cmp, query_eq, queries_cmp};
 ghost use Rattle.query_tree.specs.OrderLaws.{end_cmp_total, end_eq-same};
 ghost use Rattle.query_tree.specs.QueryLaws.{query_cmp_total, query_eq-same};
-ghost use Rattle.std.specs.Prelude.{fold};
 ghost use Rattle.std.specs.Hash as fed;
 ghost use Rattle.query_tree.specs.Feed.{end_fed, query_fed};
 
@@ -16,7 +14,7 @@ use std::alloc::Global;
 use std::cmp::Ordering;
 use std::hash::{Hash, Hasher};
 
-/// A list of queries.
+/// A list of queries. Its slices stand by the first queries that differ, else the shorter one first.
 pub type Queries = Items<Query>;
 
 /// One end of a range. An open end stands first, then ends by their keys, and of two ends at one key the one that
@@ -111,6 +109,10 @@ impl Hash for End {
 }
 
 /// What is asked of a document.
+///
+/// Queries stand by kind as the kinds stand here, then by field, then by contents in their order. Equal queries are
+/// one value. To compare or to hash costs the query's length, and a stack frame or two a level; parsed queries are at
+/// most 65 levels deep.
 #[derive(Debug, Drop)]
 pub enum Query {
     /// Any document.
@@ -134,8 +136,8 @@ pub enum Query {
 }
 
 impl Query {
-    /// An equal query. It costs the query's length, and a stack frame a level; parsed queries are at most 65 levels
-    /// deep.
+    /// An equal query. It costs the query's length, and two stack frames a level; parsed queries are at most 65
+    /// levels deep.
     #[cycle(copying)]
     pub fn copy(&self, alloc: Global) -> Result<Query, NoMemory>
         ensures { IfOk result (λ q. q ≡ self.now) }
