@@ -152,6 +152,13 @@ impl Texts {
         self.items.as_slice()
     }
 
+    /// The vector, without memory.
+    pub fn into_vec(self) -> Vec<Text>
+        ensures { result.items ≡ self }
+    {
+        self.items
+    }
+
     /// An equal list. It costs the length of the texts in all.
     pub fn copy(&self, alloc: Global) -> Result<Texts, NoMemory>
         ensures { IfOk result (λ t. t ≡ self.now) }
