@@ -1,0 +1,4 @@
+pub mod Cuts
+pub mod Markers
+pub mod Limits
+pub mod Members

@@ -1,0 +1,4 @@
+pub mod Live
+pub mod Answer
+pub mod Reply
+pub mod Messages
