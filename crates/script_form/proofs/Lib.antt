@@ -3,3 +3,4 @@ pub mod Markers
 pub mod Limits
 pub mod Members
 pub mod Scripts
+pub mod Configs
