@@ -1,5 +1,5 @@
 -- The tokens of a text.
-use Rattle.std.specs.Prelude.{ℕ, List, [], ◌∷◌, length, Bool, ◌||◌, nat_le, nat_lt, if◌then◌else◌, filter, map}
+use Rattle.std.specs.Prelude.{ℕ, List, [], ◌∷◌, Bool, true, false, ◌||◌, nat_le, if◌then◌else◌, filter, map}
 use Rattle.std.specs.Str.{str_to_ascii_lowercase}
 use Rattle.field_schema.specs.Names.{is_letter, is_digit}
 
@@ -17,6 +17,10 @@ abbrev pub pieces : List ℕ → List (List ℕ)
 pieces [] = [] ∷ []
 pieces (c ∷ cs) = if is_token_byte c then onto c (pieces cs) else [] ∷ pieces cs
 
+abbrev pub is_filled : List ℕ → Bool
+is_filled [] = false
+is_filled (c ∷ cs) = true
+
 -- the maximal runs of such bytes, with ASCII letters in lower case
 abbrev pub tokens : List ℕ → List (List ℕ)
-tokens text = map str_to_ascii_lowercase (filter (λ piece. nat_lt 0 (length piece)) (pieces text))
+tokens text = map str_to_ascii_lowercase (filter is_filled (pieces text))

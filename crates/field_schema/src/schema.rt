@@ -57,6 +57,20 @@ impl Schema {
         Err(SchemaFault::NoMemory)
     }
 
+    /// A schema of fields of whole texts with one value, all stored and indexed. It costs the length of the names
+    /// in all.
+    pub fn strings(alloc: Global, names: Texts, key: FieldNo) -> Result<Schema, NoMemory>
+        requires most { length names ≤ 64 }
+        requires form { IsTrue (list_all is_field_name names) }
+        requires distinct { IsTrue (names_differ (map string_field names)) }
+        requires key { key < length names }
+        ensures fields { IfOk result (λ s. s.list ≡ map string_field names) }
+        ensures key { IfOk result (λ s. s.key ≡ key) }
+    {
+        let fields = string_fields(alloc, names.into_vec())?;
+        Ok(Schema { fields, key })
+    }
+
     /// The place of the field of that name; None exactly where there is none. It costs a comparison a field.
     pub fn field(&self, name: &str) -> Option<FieldNo>
         ensures { result ≡ field_named name.now self.now.list }
@@ -99,4 +113,15 @@ fn place_of(fields: &[Field], name: &str) -> Option<FieldNo>
         }
     }
     None
+}
+
+// The fields of these names.
+fn string_fields(alloc: Global, names: Vec<Text>) -> Result<Vec<Field>, NoMemory>
+    ensures { IfOk result (λ v. v.items ≡ map string_field names.items) }
+{
+    let mut fields = Vec::with_capacity(alloc, names.len())?;
+    for name in names {
+        fields.push(Field { name, kind: FieldType::Str, multi: false, stored: true, indexed: true })?;
+    }
+    Ok(fields)
 }

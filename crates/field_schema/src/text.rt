@@ -4,7 +4,9 @@ ghost use Rattle.std.specs.Hash as fed;
 ghost use Rattle.std.specs.Cmp.Lexicographic.{pointwise, slice_cmp, nat_list_eq_equiv, nat_list_cmp_total, texts_ties, texts_po};
 ghost use Rattle.std.specs.Cmp.{partial_equiv_from_equiv};
 ghost use Rattle.std.specs.Cmp.Rules.{hashing};
-ghost use Rattle.std.proofs.Common.{rules};
+ghost use Rattle.std.proofs.Common.{rules, ap};
+ghost use Rattle.field_schema.specs.Bytes.{bytes_eq, bytes_cmp, texts_eq, texts_cmp};
+ghost use Rattle.field_schema.specs.Laws.{texts_eq_equiv, texts_cmp_total, texts_cmp_ties, texts_cmp_po, texts_eq-same};
 
 use crate::memory::NoMemory;
 use std::alloc::Global;
@@ -122,7 +124,7 @@ impl fmt::Debug for Text {
 }
 
 /// A list of texts. Contracts see it as the list of their bytes.
-#[derive(Drop, Debug)]
+#[derive(Debug, Drop)]
 pub struct Texts {
     items: Vec<Text>,
 }
@@ -148,5 +150,71 @@ impl Texts {
         ensures { result.now ≡ self.now }
     {
         self.items.as_slice()
+    }
+
+    /// The vector, without memory.
+    pub fn into_vec(self) -> Vec<Text>
+        ensures { result.items ≡ self }
+    {
+        self.items
+    }
+
+    /// An equal list. It costs the length of the texts in all.
+    pub fn copy(&self, alloc: Global) -> Result<Texts, NoMemory>
+        ensures { IfOk result (λ t. t ≡ self.now) }
+    {
+        let mut items = Vec::with_capacity(alloc, self.items.len())?;
+        for text in self.get() {
+            items.push(text.copy(alloc)?)?;
+        }
+        Ok(Texts { items })
+    }
+}
+
+impl PartialEq for Texts {
+    ghost eq = { texts_eq };
+
+    ghost laws = { partial_equiv_from_equiv texts_eq_equiv };
+
+    fn eq(&self, other: &Texts) -> bool {
+        self.get() == other.get()
+    }
+}
+
+impl Eq for Texts {
+    ghost laws = { texts_eq_equiv };
+}
+
+impl PartialOrd for Texts {
+    ghost partial_cmp = { λ x y. Some (texts_cmp x y) };
+
+    ghost laws = { texts_cmp_po };
+
+    fn partial_cmp(&self, other: &Texts) -> Option<Ordering> {
+        Some(self.cmp(other))
+    }
+}
+
+impl Ord for Texts {
+    ghost cmp = { texts_cmp };
+
+    ghost total = { texts_cmp_total };
+
+    ghost matches_partial_cmp = { λ x y. refl };
+
+    ghost matches_eq = { texts_cmp_ties };
+
+    fn cmp(&self, other: &Texts) -> Ordering {
+        self.get().cmp(other.get())
+    }
+}
+
+impl Hash for Texts {
+    ghost hash_input = { fed.slice fed.str };
+
+    ghost respects_eq = { λ x y e. ap (fed.slice fed.str) (texts_eq-same x y e) };
+
+    fn hash<H: Hasher>(&self, state: &mut H) {
+        self.get().hash(state);
     }
 }

@@ -1,2 +1,6 @@
 pub mod Keys
 pub mod Matches
+pub mod MatchLaws
+pub mod Order
+pub mod OrderLaws
+pub mod Feed

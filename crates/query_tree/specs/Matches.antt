@@ -7,12 +7,13 @@ use Rattle.field_schema.specs.declared.key.Key.{Key}
 use Rattle.field_schema.specs.declared.key.Key.TheVariants as key
 use Rattle.field_schema.specs.Tokens.{tokens}
 use Rattle.field_schema.specs.Bytes.{bytes_eq}
+use Rattle.field_schema.specs.Keys.{key_eq, key_cmp}
 use Rattle.query_tree.specs.declared.query.End.{End}
 use Rattle.query_tree.specs.declared.query.End.TheVariants as end
 use Rattle.query_tree.specs.declared.query.Query.{Query, fold-Query, out-Query}
 use Rattle.query_tree.specs.declared.query.Query.TheOpen.{Query-F}
 use Rattle.query_tree.specs.declared.query.Query.TheOpen as node
-use Rattle.query_tree.specs.Keys.{values_in, keys_in, key_eq, key_cmp}
+use Rattle.query_tree.specs.Keys.{values_in, keys_in}
 
 -- the tokens begin with the words
 abbrev pub begins_with : List (List ℕ) → List (List ℕ) → Bool

@@ -1,6 +1,7 @@
 //! Queries and sorts as trees, and which documents a query matches.
 #![tactic(auto)]
 
+pub mod laws;
 mod query;
 mod sort;
 

@@ -1,9 +1,13 @@
 -- When a fault of the outside may be told.
-use Rattle.std.specs.Prelude.{◌≡◌, ℕ, ◌+◌, ◌-◌, ◌^◌, ◌≤◌, min, List, Option, Some, None, Result, OnErr}
+use Rattle.std.specs.Prelude.{◌≡◌, ℕ, ◌+◌, ◌-◌, ◌^◌, ◌≤◌, min, List, Option, Result, OnErr}
 
 -- the greatest number of a count of faults, at which it stands still
 abbrev pub most_faults : ℕ
 most_faults = 2 ^ 64 - 1
+
+-- the count after one more, which stands still at its greatest number
+abbrev pub one_more : ℕ → ℕ
+one_more count = min (count + 1) most_faults
 
 -- the count rose, or stands at its greatest number
 abbrev pub Rose : ℕ → ℕ → Type 0

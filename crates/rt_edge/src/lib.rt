@@ -4,14 +4,24 @@
 //! above can say that a fault was told only where the outside failed in that very call.
 #![tactic(auto)]
 
+mod fails;
 mod gate;
+mod mem_sink;
+mod mem_source;
 mod sink;
 mod source;
+mod std_streams;
 
 pub use gate::{Gate, Moment, OpenGate};
+pub use mem_sink::MemSink;
+pub use mem_source::MemSource;
 pub use sink::Sink;
 pub use source::{Failed, Source};
+pub use std_streams::{StdSink, StdSource};
 
 /// Memory was wanting.
 #[derive(Clone, Copy, Debug, PartialEq, Eq)]
 pub struct NoMemory;
+
+#[cfg(test)]
+mod tests;

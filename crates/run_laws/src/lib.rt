@@ -1,13 +1,3 @@
-// A library with one function.
+//! What makes the output of a run lawful: definitions alone, a check of printed rows against lists. No lock, word,
+//! thread, cache or loop of the program is in them.
 #![tactic(auto)]
-
-ghost use Rattle.std.specs.Prelude.{◌≡◌};
-ghost use Rattle.run_laws.specs.Echo.{echo_of};
-
-// The `ensures` clause is the contract: what `echo` returns is `echo_of` of its argument, a definition
-// in `specs/Echo.antt`, which a caller's clause can cite too.
-pub fn echo(x: usize) -> usize
-    ensures { result ≡ echo_of x }
-{
-    x
-}

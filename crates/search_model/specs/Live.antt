@@ -5,7 +5,7 @@ use Rattle.field_schema.specs.declared.key.Key.{Key}
 use Rattle.field_schema.specs.declared.key.Key.TheVariants as key
 use Rattle.doc_model.specs.Document.{Document, keys_at}
 use Rattle.query_tree.specs.declared.query.Query.{Query}
-use Rattle.query_tree.specs.Keys.{key_eq}
+use Rattle.field_schema.specs.Keys.{key_eq}
 use Rattle.query_tree.specs.Matches.{top}
 
 -- what an entry of the journal changes

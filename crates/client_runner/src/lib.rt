@@ -1,0 +1,11 @@
+//! Runs the clients of a script, and tells their requests and the searchers as rows.
+//!
+//! The runner is serial: it takes the lines in the order of the script and finishes each searcher at once.
+#![tactic(auto)]
+
+mod laws;
+mod pending;
+mod rows;
+
+pub use laws::serial_runs_are_lawful;
+pub use rows::{Output, RequestRow, RequestRows, SearcherList, SearcherRow, Verb};
