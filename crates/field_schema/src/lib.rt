@@ -3,7 +3,10 @@
 
 mod field;
 mod key;
+mod member;
 mod memory;
+mod name;
+mod reading;
 mod schema;
 mod text;
 mod token;
