@@ -51,7 +51,9 @@ pub struct Config {
 /// The first check of the configuration that fails, and what it looked at.
 #[derive(Debug, Drop)]
 pub struct ConfigFault {
+    /// The check's number, from 1; 0 where the configuration has not the form that is built so far.
     pub at: u32,
+    /// The name of what it looked at; `config` where that is the whole.
     pub name: Text,
 }
 
@@ -80,7 +82,8 @@ impl From<NoMemory> for ConfigRefusal {
 /// The input has the form where some line is exactly `%%`, and the text before it is an object whose one member
 /// `schema` is a schema of plain string fields: each field's object has the two members `name` and `type`, and the
 /// type is `string`. All else has its default. An error is an input without that form (a fault that names
-/// `config`), or want of memory. It costs the length of the configuration, and what its schema costs to read.
+/// `config`), or want of memory. It costs the length of what stands before the script, and what the schema costs to
+/// read.
 #[tactic(auto, unfolding(crate::specs::ReadConfig::config_of))]
 pub fn read_config(alloc: Global, bytes: &[u8]) -> Result<(Config, usize), ConfigRefusal>
     ensures config { MatchResult result (λ r. config_of bytes.now ≡ Some r.0) (IsConfigRefusal (config_of bytes.now)) }
