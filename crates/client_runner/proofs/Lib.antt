@@ -14,3 +14,4 @@ pub mod SerialLawful
 pub mod Replies
 pub mod Rooms
 pub mod Commits
+pub mod LineTexts

@@ -31,9 +31,9 @@ loop-line-preserved g c =
     let turn = step c.args.config.now in
     record {
       ran =
-        here ∙ ap (λ st. turn st line) c.loop-line.invariant.ran
-        ∙ ap (turn (fold turn start (take i lines))) c.line-item.is
-        ∙ sym (fold_more turn start lines i line c.loop-line-test.true);
+          here ∙ ap (λ st. turn st line) c.loop-line.invariant.ran
+          ∙ ap (turn (fold turn start (take i lines))) c.line-item.is
+          ∙ sym (fold_more turn start lines i line c.loop-line-test.true);
       room = record {
         id = c.in_ok-step.ensures.id ∙ c.loop-line.invariant.room.id;
         room = rw here (serve_room c.args.config.now.schema (standing c.loop-line.runner) (request_as 0 line.number line.what) (100000 - (i + 1)) room);
@@ -44,10 +44,10 @@ pub returns : goal.returns
 unfolding serial_output
 returns g c = record {
   lawful =
-    let lines = c.get-line-items.result.now in
-    let all : standing c.loop-line.runner ≡ fold (step c.args.config.now) start c.args.script.now =
-    c.loop-line.invariant.ran ∙ ap (fold (step c.args.config.now) start) (take_all c.loop-line.line-index lines c.loop-line-test.false ∙ c.get-line-items.ensures) in
-    IfOk-weaker c.finish.result _ (λ o. Lawful c.args.config.now c.args.script.now (output_view o))
-    (λ o h. subst (λ v. Lawful c.args.config.now c.args.script.now v) (sym (h ∙ ap output_at all)) (serial_is_lawful c.args.config.now c.args.script.now c.requires.warming))
-    c.finish.ensures;
+      let lines = c.get-line-items.result.now in
+      let all : standing c.loop-line.runner ≡ fold (step c.args.config.now) start c.args.script.now =
+      c.loop-line.invariant.ran ∙ ap (fold (step c.args.config.now) start) (take_all c.loop-line.line-index lines c.loop-line-test.false ∙ c.get-line-items.ensures) in
+      IfOk-weaker c.finish.result _ (λ o. Lawful c.args.config.now c.args.script.now (output_view o))
+      (λ o h. subst (λ v. Lawful c.args.config.now c.args.script.now v) (sym (h ∙ ap output_at all)) (serial_is_lawful c.args.config.now c.args.script.now c.requires.warming))
+      c.finish.ensures;
 }
