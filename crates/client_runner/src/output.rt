@@ -29,17 +29,27 @@ fn put_optional(out: &mut String, piece: &str, number: Option<u64>) -> Result<()
     }
 }
 
+/// The same of a smaller number.
+fn put_small(out: &mut String, piece: &str, number: Option<u32>) -> Result<(), NoMemory>
+    ensures { OnOk result (string_bytes out.new ≡ string_bytes out.old ++ optional_piece piece.now number) }
+{
+    match number {
+        Some(number) => put_number(out, piece, u64::from(number)),
+        None => Ok(()),
+    }
+}
+
 /// Writes the line of a request.
 fn put_request(out: &mut String, row: &RequestRow) -> Result<(), NoMemory>
     ensures { OnOk result (string_bytes out.new ≡ string_bytes out.old ++ request_line (request_view row.now)) }
 {
     put_number(out, "{\"client\":", u64::from(row.client))?;
-    put_optional(out, ",\"generation\":", row.generation.map(u64::from))?;
+    put_small(out, ",\"generation\":", row.generation)?;
     put_number(out, ",\"line\":", u64::from(row.line))?;
     put_optional(out, ",\"place\":", row.place)?;
     out.push_str(",\"reply\":")?;
     out.push_str(row.reply.get())?;
-    put_optional(out, ",\"ticket\":", row.ticket.map(u64::from))?;
+    put_small(out, ",\"ticket\":", row.ticket)?;
     out.push_str("}\n")?;
     Ok(())
 }
@@ -55,15 +65,20 @@ fn put_end(out: &mut String, told: bool, piece: &str, place: u64) -> Result<(), 
     }
 }
 
+/// Writes a generation and a ticket.
+fn put_pin(out: &mut String, generation: u32, ticket: u32) -> Result<(), NoMemory>
+    ensures { OnOk result (string_bytes out.new ≡ string_bytes out.old ++ from_piece (Some (generation, ticket))) }
+{
+    put_number(out, ",\"from\":", u64::from(generation))?;
+    put_number(out, ",\"fromTicket\":", u64::from(ticket))
+}
+
 /// Writes the generation and the ticket from which a searcher was warmed.
 fn put_from(out: &mut String, from: Option<(u32, u32)>) -> Result<(), NoMemory>
     ensures { OnOk result (string_bytes out.new ≡ string_bytes out.old ++ from_piece (option_map (λ p. (p.0, p.1)) from)) }
 {
     match from {
-        Some((generation, ticket)) => {
-            put_number(out, ",\"from\":", u64::from(generation))?;
-            put_number(out, ",\"fromTicket\":", u64::from(ticket))
-        }
+        Some((generation, ticket)) => put_pin(out, generation, ticket),
         None => Ok(()),
     }
 }
