@@ -1,10 +1,11 @@
-ghost use Rattle.std.specs.Prelude.{◌≡◌, [], IfOk, map, slice_index_or};
+ghost use Rattle.std.specs.Prelude.{◌≡◌, [], map, slice_index_or};
 ghost use Rattle.std.specs.Arc.{arc_value};
 ghost use Rattle.field_schema.specs.Outcome.{Gives};
 ghost use Rattle.doc_model.specs.Document.{keys_at};
 ghost use Rattle.doc_model.specs.ReadDoc.{doc_of, is_no_memory};
 
-use field_schema::{FieldNo, Key, Schema, Text};
+use crate::object::{read_members, read_object};
+use field_schema::{FieldNo, Key, NoMemory, Schema, Text};
 use std::alloc::Global;
 use std::marker::Model;
 use std::sync::Arc;
@@ -26,6 +27,17 @@ pub enum DocFault {
     TooLong { bytes: usize },
     /// Memory was wanting.
     NoMemory,
+}
+
+impl From<NoMemory> for DocFault {
+    ghost use Rattle.std.specs.Prelude.{◌≡◌};
+    ghost use Rattle.doc_model.specs.declared.doc.DocFault.TheVariants as fault;
+
+    ghost from_gives = { λ _ e. e ≡ fault.NoMemory };
+
+    fn from(_error: NoMemory) -> DocFault {
+        DocFault::NoMemory
+    }
 }
 
 /// A document. Contracts see for each field, in the order of the schema, the list of its keys.
@@ -54,7 +66,9 @@ impl Doc {
     pub fn read(alloc: Global, schema: &Schema, body: &str) -> Result<Doc, DocFault>
         ensures { Gives is_no_memory result (doc_of schema.now body.now) }
     {
-        Err(DocFault::NoMemory)
+        let members = read_members(alloc, body)?;
+        let fields = read_object(alloc, schema, &members)?;
+        Ok(Doc { fields })
     }
 
     /// The keys in a field, in their order; none where there is no such field. It costs nothing.

@@ -3,6 +3,8 @@
 
 mod doc;
 mod json;
+mod object;
+mod value;
 
 pub use doc::{Doc, DocFault, Docs};
 pub use json::doc_json;
