@@ -1,5 +1,5 @@
 -- The slots of documents, as a document takes the place of the one with its unique key.
-use Rattle.std.proofs.Common.{◌≡◌, ◌<◌, ◌≤◌, ℕ, suc, zero, Bool, true, false, cond, List, [], ◌∷◌, ◌++◌, length, take, Option, Some, None, filter, refl, ap, sym, ◌∙◌, subst, arith, ⊎_elim}
+use Rattle.std.proofs.Common.{◌≡◌, ◌<◌, ◌≤◌, ℕ, suc, zero, Bool, true, false, cond, List, [], ◌∷◌, ◌++◌, length, get_or, take, map, Option, Some, None, filter, refl, ap, sym, ◌∙◌, subst, arith, ⊎_elim}
 use Rattle.std.specs.Prelude.{◌⊎◌, ◌+◌, IfSome, ◌≢◌, not, slice_set, slice_get}
 use Rattle.std.specs.List.{filter_map}
 use Rattle.std.specs.Arc.{arc_value}
@@ -7,8 +7,8 @@ use Rattle.std.specs.declared.sync.Arc.{Arc}
 use Rattle.std.specs.Cmp.Lexicographic.{pointwise, pointwise_decides, slice_cmp, lists_ties}
 use Rattle.std.specs.BTreeMap.{BTreeMap, get, Updates}
 use Rattle.std.proofs.lemmas.Bool.{true≢false}
-use Rattle.std.proofs.lemmas.Option.{none-some, same_Some}
-use Rattle.std.proofs.lemmas.List.{length-set, length-append, append-nil, set-append_left, set_at}
+use Rattle.std.proofs.lemmas.Option.{none-some, same_Some, slice_get_read}
+use Rattle.std.proofs.lemmas.List.{length-set, length-append, append-nil, map-append, set-append_left, set_at, take_more}
 use Rattle.std.proofs.lemmas.List.Elements.{filter_map-append}
 use mathlib.Core.Logic.{inl, inr}
 use Rattle.field_schema.specs.declared.key.Key.{Key}
@@ -235,3 +235,35 @@ module _ {Z : Type 0} where
       within (x ∷ xs) zero j h = absurd (none-some _ h)
       within (x ∷ xs) (suc i') zero h = omega arith
       within (x ∷ xs) (suc i') (suc j) h = let below : j < i' = within xs i' j h in omega arith
+
+  -- ---- one slot more
+
+  pub documents-more_some : (slots : List (Option (Arc Document Z))) (i : ℕ) (s : Option (Arc Document Z)) (a : Arc Document Z) → i < length slots → s ≡ get_or slots i s → s ≡ Some a
+      → documents (take (i + 1) slots) ≡ documents (take i slots) ++ arc_value a ∷ []
+  documents-more_some slots i s a within item some =
+      ap documents (take_more slots i s within ∙ ap (λ t. take i slots ++ t ∷ []) (sym item ∙ some)) ∙ documents-push (take i slots) a
+
+  pub documents-more_none : (slots : List (Option (Arc Document Z))) (i : ℕ) (s : Option (Arc Document Z)) → i < length slots → s ≡ get_or slots i s → s ≡ None
+      → documents (take (i + 1) slots) ≡ documents (take i slots)
+  documents-more_none slots i s within item none =
+      ap documents (take_more slots i s within ∙ ap (λ t. take i slots ++ t ∷ []) (sym item ∙ none)) ∙ documents-pushed_none (take i slots)
+
+  -- a copy b of the document a in slot i is shared
+  pub share-more : (slots : List (Option (Arc Document Z))) (i : ℕ) (s : Option (Arc Document Z)) (a b : Arc Document Z) (shared pushed : List (Arc Document Z)) → i < length slots → s ≡ get_or slots i s → s ≡ Some a
+      → arc_value b ≡ arc_value a → map arc_value shared ≡ documents (take i slots) → pushed ≡ shared ++ b ∷ [] → map arc_value pushed ≡ documents (take (i + 1) slots)
+  share-more slots i s a b shared pushed within item some same before is =
+      ap (map arc_value) is
+      ∙ map-append arc_value shared (b ∷ [])
+      ∙ ap (λ ds. ds ++ arc_value b ∷ []) before
+      ∙ ap (λ d. documents (take i slots) ++ d ∷ []) same
+      ∙ sym (documents-more_some slots i s a within item some)
+
+  -- the document d in slot i is added to those before it
+  pub compacted-more : (id : ℕ) (slots : List (Option (Arc Document Z))) (m : BTreeMap (List Key) ℕ) (i : ℕ) (s : Option (Arc Document Z)) (a : Arc Document Z) (d : Document) (docs more : List Document)
+      → IsPlaced id slots m → i < length slots → s ≡ get_or slots i s → s ≡ Some a → d ≡ arc_value a → docs ≡ documents (take i slots) → more ≡ after id docs (added d) → more ≡ documents (take (i + 1) slots)
+  compacted-more id slots m i s a d docs more placed within item some same before is =
+      is
+      ∙ ap (λ e. after id docs (added e)) same
+      ∙ ap (λ ds. after id ds (added (arc_value a))) before
+      ∙ ap (λ ds. ds ++ arc_value a ∷ []) (sym (documents-distinct id slots m i a placed (slice_get_read slots (length slots) i s refl within item ∙ ap Some some)))
+      ∙ sym (documents-more_some slots i s a within item some)
