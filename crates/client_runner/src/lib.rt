@@ -5,7 +5,10 @@
 
 mod laws;
 mod pending;
+mod reply;
 mod rows;
+mod runner;
+mod search;
 
 pub use laws::serial_runs_are_lawful;
 pub use rows::{Output, RequestRow, RequestRows, SearcherList, SearcherRow, Verb};

@@ -8,4 +8,5 @@ mod script;
 
 pub use config::{Config, ConfigFault, ConfigRefusal, WarmSetting, read_config};
 pub use lines::too_large;
+pub use requests::query_term;
 pub use script::{Line, LineFault, LineName, Script, ScriptRefusal, What, read_script};

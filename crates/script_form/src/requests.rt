@@ -3,10 +3,12 @@ ghost use Rattle.serde_json.specs.Read.{read};
 ghost use Rattle.serde_json.specs.View.{members_view, view};
 ghost use Rattle.field_schema.specs.Names.{is_digit, is_letter};
 ghost use Rattle.doc_model.specs.ReadDoc.{doc_of};
-ghost use Rattle.script_form.specs.Requests.{all_texts, asked_of, is_add_body, is_alphanumeric as is_alphanumeric_word, is_word as is_search_word, term_of};
+ghost use Rattle.script_form.specs.Requests.{all_texts, asked_of, is_add_body, is_alphanumeric as is_alphanumeric_word, first_ten, is_word as is_search_word, term_of};
+ghost use Rattle.query_tree.specs.declared.query.Query.{Term};
+ghost use Rattle.field_schema.specs.declared.key.Key.TheVariants as Key;
 
 use doc_model::{Doc, DocFault};
-use field_schema::{NoMemory, Schema};
+use field_schema::{FieldNo, NoMemory, Schema};
 use serde_json::{Map, Value};
 use std::alloc::Global;
 
@@ -57,23 +59,34 @@ fn is_document(alloc: Global, schema: &Schema, body: &str) -> Result<bool, NoMem
 }
 
 // Whether a text is `q=` with a field's name, a colon and a word.
-#[tactic(auto, unfolding(crate::specs::Requests::asked_of))]
 pub(crate) fn is_query(schema: &Schema, body: &str) -> bool
     ensures { result ≡ is_some (asked_of schema.now body.now) }
 {
+    query_term(schema, body).is_some()
+}
+
+/// The field and the word that the body of a query asks for; None exactly where the body is not `q=` with a
+/// field's name, a colon and a word. It costs the body's length.
+#[tactic(auto, unfolding(crate::specs::Requests::asked_of))]
+pub fn query_term<'a>(schema: &Schema, body: &'a str) -> Option<(FieldNo, &'a str)>
+    ensures { option_map (λ t. first_ten (Term t.0 (Key.Str t.1.now))) result ≡ asked_of schema.now body.now }
+{
     match body.strip_prefix("q=") {
-        Some(text) => is_term(schema, text),
-        None => false,
+        Some(text) => named_term(schema, text),
+        None => None,
     }
 }
 
-// Whether a text is a field's name, a colon and a word.
-fn is_term(schema: &Schema, text: &str) -> bool
-    ensures { result ≡ is_some (term_of schema.now text.now) }
+// The field and the word of a text that is a field's name, a colon and a word.
+fn named_term<'a>(schema: &Schema, text: &'a str) -> Option<(FieldNo, &'a str)>
+    ensures { option_map (λ t. Term t.0 (Key.Str t.1.now)) result ≡ term_of schema.now text.now }
 {
     match text.split_once(':') {
-        Some((name, word)) => is_word(word) && schema.field(name).is_some(),
-        None => false,
+        Some((name, word)) if is_word(word) => {
+            let field = schema.field(name)?;
+            Some((field, word))
+        }
+        _ => None,
     }
 }
 

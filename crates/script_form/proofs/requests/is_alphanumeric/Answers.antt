@@ -13,6 +13,6 @@ pub returns-then-not-is_empty : goal.returns-then-not-is_empty
 returns-then-not-is_empty c =
     let word : List ℕ = c.args.text.now in
     let each : c.all.result ≡ list_all is_listed word =
-        all_from_yields_List is_listed _ _ c.all.result c.all.ensures.ran (YieldsList-from_bytes word cc) (λ x b q k. search (rules, tests)) in
+    all_from_yields_List is_listed _ _ c.all.result c.all.ensures.ran (YieldsList-from_bytes word cc) (λ x b q k. search (rules, tests)) in
     let some : 0 < length word = grind arith in
     each ∙ ap (λ (b : Bool). b && list_all is_listed word) (sym (lt-ltb 0 (length word) some))
