@@ -1,3 +1,6 @@
+pub mod FieldFaults
+pub mod FieldLists
 pub mod Positions
+pub mod Shapes
 pub mod StringFields
 pub mod TokenRuns

@@ -1,11 +1,11 @@
 -- A list of fields of whole texts can be a schema's.
-use Rattle.std.proofs.Common.{◌≡◌, ℕ, ◌<◌, ◌≤◌, Bool, true, List, [], ◌∷◌, length, get_or, map, slice_get, Some, refl, ap, sym, ◌∙◌, subst, arith, IsTrue, IsSomeAnd}
+use Rattle.std.proofs.Common.{ℕ, ◌<◌, ◌≤◌, List, [], length, map, refl, IsTrue}
 use Rattle.std.specs.List.{list_all}
 use Rattle.std.proofs.lemmas.List.{length-map}
 use Rattle.std.proofs.lemmas.List.Folds.{list_all-map}
 use Rattle.std.proofs.lemmas.Option.{slice_get-map, slice_get-get_or}
 use Rattle.field_schema.specs.Names.{is_field_name}
-use Rattle.field_schema.specs.Schema.{Fields, IsSchema, names_differ, string_field, can_be_key}
+use Rattle.field_schema.specs.Schema.{IsSchema, names_differ, string_field}
 
 pub string_fields-IsSchema : (names : List (List ℕ)) (key : ℕ) → length names ≤ 64 → IsTrue (list_all is_field_name names) → IsTrue (names_differ (map string_field names)) → key < length names
     → IsSchema (record { list = map string_field names; key = key })

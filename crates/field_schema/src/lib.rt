@@ -3,7 +3,10 @@
 
 mod field;
 mod key;
+mod member;
 mod memory;
+mod name;
+mod reading;
 mod schema;
 mod text;
 mod token;
@@ -14,3 +17,6 @@ pub use memory::NoMemory;
 pub use schema::{Schema, SchemaFault};
 pub use text::{Text, Texts};
 pub use token::tokens;
+
+#[cfg(test)]
+mod tests;

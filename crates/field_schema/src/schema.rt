@@ -8,10 +8,12 @@ ghost use Rattle.field_schema.specs.ReadSchema.{schema_of, is_no_memory};
 ghost use Rattle.serde_json.specs.View.{view};
 
 use crate::field::{Field, FieldNo, FieldType};
+use crate::member::field_values;
 use crate::memory::NoMemory;
+use crate::reading::{key_place, read_fields};
 use crate::text::{Text, Texts};
 use serde_json::Value;
-use std::alloc::Global;
+use std::alloc::{AllocFailed, Global};
 use std::marker::Model;
 
 /// Why a value is no schema: the first fault.
@@ -30,6 +32,26 @@ pub enum SchemaFault {
     Twice { name: Text },
     /// Memory was wanting.
     NoMemory,
+}
+
+impl From<NoMemory> for SchemaFault {
+    ghost use Rattle.field_schema.specs.declared.schema.SchemaFault.TheVariants.{NoMemory};
+
+    ghost from_gives = { λ _ fault. fault ≡ NoMemory };
+
+    fn from(_error: NoMemory) -> SchemaFault {
+        SchemaFault::NoMemory
+    }
+}
+
+impl<T: Drop> From<AllocFailed<T>> for SchemaFault {
+    ghost use Rattle.field_schema.specs.declared.schema.SchemaFault.TheVariants.{NoMemory};
+
+    ghost from_gives = { λ _ fault. fault ≡ NoMemory };
+
+    fn from(_error: AllocFailed<T>) -> SchemaFault {
+        SchemaFault::NoMemory
+    }
 }
 
 /// A schema: 1 to 64 fields with distinct names, one of which is the unique key.
@@ -54,7 +76,14 @@ impl Schema {
     pub fn read(alloc: Global, value: &Value) -> Result<Schema, SchemaFault>
         ensures { Gives is_no_memory result (schema_of (view value.now)) }
     {
-        Err(SchemaFault::NoMemory)
+        let Some(list) = field_values(value) else {
+            return Err(SchemaFault::NotObject);
+        };
+        let fields = read_fields(alloc, list)?;
+        match key_place(fields.as_slice(), value) {
+            Some(key) => Ok(Schema { fields, key }),
+            None => Err(SchemaFault::NoUniqueKey),
+        }
     }
 
     /// A schema of fields of whole texts with one value, all stored and indexed. It costs the length of the names
@@ -121,7 +150,13 @@ fn string_fields(alloc: Global, names: Vec<Text>) -> Result<Vec<Field>, NoMemory
 {
     let mut fields = Vec::with_capacity(alloc, names.len())?;
     for name in names {
-        fields.push(Field { name, kind: FieldType::Str, multi: false, stored: true, indexed: true })?;
+        fields.push(Field {
+            name,
+            kind: FieldType::Str,
+            multi: false,
+            stored: true,
+            indexed: true,
+        })?;
     }
     Ok(fields)
 }

@@ -1,4 +1,4 @@
-use Rattle.std.proofs.Common.{◌≡◌, ◌++◌, map}
+use Rattle.std.proofs.Common.{◌≡◌, map}
 use Rattle.field_schema.specs.Schema.{string_field}
 use Rattle.field_schema.proofs.schema.string_fields.Given as goal
 

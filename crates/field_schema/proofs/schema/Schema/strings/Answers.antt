@@ -8,4 +8,4 @@ invariant_of-result c =
     let r = c.requires in
     let same : c.in_ok-fields.fields.items ≡ map string_field c.args.names = c.in_ok-fields.ensures ∙ ap (map string_field) c.into_vec.ensures in
     subst (λ list. IsSchema (record { list = list; key = c.args.key })) (sym same)
-        (string_fields-IsSchema c.args.names c.args.key r.most r.form r.distinct r.key)
+    (string_fields-IsSchema c.args.names c.args.key r.most r.form r.distinct r.key)
