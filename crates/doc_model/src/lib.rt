@@ -4,6 +4,8 @@
 mod doc;
 mod json;
 mod object;
+#[cfg(test)]
+mod tests;
 mod value;
 
 pub use doc::{Doc, DocFault, Docs};

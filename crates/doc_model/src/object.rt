@@ -80,11 +80,11 @@ pub(crate) fn read_object(
 fn no_keys(alloc: Global, schema: &Schema) -> Result<Vec<Vec<Key>>, NoMemory>
     ensures { IfOk result (λ d. map (λ v. v.items) d.items ≡ map (keys_of no_members) schema.now.list) }
 {
-    let mut fields = Vec::new(alloc);
+    let mut empty = Vec::new(alloc);
     for _number in 0..schema.len() {
-        fields.push(Vec::new(alloc))?;
+        empty.push(Vec::new(alloc))?;
     }
-    Ok(fields)
+    Ok(empty)
 }
 
 // Whether the key's member is absent or has no value.
