@@ -3,6 +3,8 @@ ghost use Rattle.std.specs.Arc.{arc_value};
 ghost use Rattle.search_model.specs.Live.{added, after};
 ghost use Rattle.client_runner.specs.Kept.{emptied};
 
+#[cfg(test)]
+mod tests;
 mod unique_key;
 
 use crate::pending::unique_key::UniqueKey;
