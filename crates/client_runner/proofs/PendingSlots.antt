@@ -1,15 +1,13 @@
 -- The slots of documents, as a document takes the place of the one with its unique key.
-use Rattle.std.proofs.Common.{◌≡◌, ◌<◌, ◌≤◌, ℕ, suc, zero, Bool, true, false, cond, List, [], ◌∷◌, ◌++◌, length, get_or, take, map, Option, Some, None, filter, refl, ap, sym, ◌∙◌, subst, arith, ⊎_elim}
-use Rattle.std.specs.Prelude.{◌⊎◌, ◌+◌, IfSome, ◌≢◌, not, slice_set, slice_get}
-use Rattle.std.specs.List.{filter_map}
+use Rattle.std.proofs.Common.{◌≡◌, ◌<◌, ℕ, suc, zero, Bool, true, false, List, [], ◌∷◌, ◌++◌, length, get_or, take, map, Option, Some, None, filter, refl, ap, sym, ◌∙◌, arith, ⊎_elim}
+use Rattle.std.specs.Prelude.{◌⊎◌, ◌+◌, IfSome, not, slice_set, slice_get}
 use Rattle.std.specs.Arc.{arc_value}
 use Rattle.std.specs.declared.sync.Arc.{Arc}
 use Rattle.std.specs.Cmp.Lexicographic.{pointwise, pointwise_decides, slice_cmp, lists_ties}
 use Rattle.std.specs.BTreeMap.{BTreeMap, get, Updates}
 use Rattle.std.proofs.lemmas.Bool.{true≢false}
 use Rattle.std.proofs.lemmas.Option.{none-some, same_Some, slice_get_read}
-use Rattle.std.proofs.lemmas.List.{length-set, length-append, append-nil, map-append, set-append_left, set_at, take_more}
-use Rattle.std.proofs.lemmas.List.Elements.{filter_map-append}
+use Rattle.std.proofs.lemmas.List.{length-set, length-append, map-append, set-append_left, set_at, take_more}
 use mathlib.Core.Logic.{inl, inr}
 use Rattle.field_schema.specs.declared.key.Key.{Key}
 use Rattle.field_schema.specs.Keys.{key_eq, key_cmp}
@@ -177,14 +175,14 @@ module _ {Z : Type 0} where
       leads : (k : List Key) (i : ℕ) → get (slice_cmp key_cmp) n k ≡ Some i → key_in id (ys ++ Some a ∷ []) i ≡ Some k
       leads k i h =
           ⊎_elim (λ e. key_in-last id ys a i (sym (same_Some last i (sym here ∙ ap (get (slice_cmp key_cmp) n) e ∙ h)) ∙ end) ∙ ap Some (sym of_doc ∙ e))
-              (λ differs. key_in-push id ys (Some a) i k (without.into i k (placed.leads k i (sym (apart k differs) ∙ h)) (λ e. differs (sym e))))
-              (cases_keys keys k)
+          (λ differs. key_in-push id ys (Some a) i k (without.into i k (placed.leads k i (sym (apart k differs) ∙ h)) (λ e. differs (sym e))))
+          (cases_keys keys k)
 
       found : (k : List Key) (i : ℕ) → key_in id (ys ++ Some a ∷ []) i ≡ Some k → get (slice_cmp key_cmp) n k ≡ Some i
       found k i h =
           ⊎_elim (λ inside. let r : (key_in id slots i ≡ Some k) × (k ≡ keys → ⊥) = without.from i k inside in apart k (λ e. r.1 (sym e)) ∙ placed.found k i r.0)
-              (λ new. ap (get (slice_cmp key_cmp) n) (sym new.1 ∙ sym of_doc) ∙ here ∙ ap Some (end ∙ sym new.0))
-              (key_in-pushed id ys a i k h)
+          (λ new. ap (get (slice_cmp key_cmp) n) (sym new.1 ∙ sym of_doc) ∙ here ∙ ap Some (end ∙ sym new.0))
+          (key_in-pushed id ys a i k h)
 
   -- the slots as the code leaves them: a new one, the older document's emptied, and the new one filled
   pub put-slots : (slots : List (Option (Arc Document Z))) (older : Option ℕ) (a : Arc Document Z) (last : ℕ) → last ≡ length slots → ((p : ℕ) → older ≡ Some p → p < length slots)

@@ -54,7 +54,8 @@ impl Pending {
 
     /// Adds a document, last, in place of the one with its unique key. After want of memory all is as before.
     ///
-    /// It costs the logarithm of the number of documents, averaged over many calls.
+    /// It costs a search among the documents by their unique keys, whose number of comparisons grows as the
+    /// logarithm of the documents', and now and then a pass over all of them, which many calls share.
     pub fn add(&mut self, alloc: Global, doc: Doc) -> Result<(), NoMemory>
         ensures id { self.new.id ≡ self.old.id }
         ensures ok { OnOk result (self.new.docs ≡ after self.old.id self.old.docs (added doc)) }
@@ -67,8 +68,8 @@ impl Pending {
         self.put(alloc, doc)
     }
 
-    /// The documents as they stand, shared. It costs a step for each document and for each empty slot, of which
-    /// there are no more than documents, or than 1,024.
+    /// The documents as they stand, shared. It costs a step a slot, of which there are no more than twice the
+    /// documents, or some 1,000.
     pub fn share(&self, alloc: Global) -> Result<Vec<Arc<Doc>>, NoMemory>
         ensures { IfOk result (λ v. map arc_value v.items ≡ self.now.docs) }
     {
