@@ -12,3 +12,7 @@ pub mod Counted
 pub mod Lives
 pub mod Tickets
 pub mod SerialLawful
+pub mod Replies
+pub mod Rooms
+pub mod Commits
+pub mod LineTexts

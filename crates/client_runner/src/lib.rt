@@ -4,11 +4,15 @@
 #![tactic(auto)]
 
 mod laws;
+mod output;
 mod pending;
 mod reply;
 mod rows;
+mod run;
 mod runner;
 mod search;
 
 pub use laws::serial_runs_are_lawful;
+pub use output::output_text;
 pub use rows::{Output, RequestRow, RequestRows, SearcherList, SearcherRow, Verb};
+pub use run::run_script;

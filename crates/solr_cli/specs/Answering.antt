@@ -1,0 +1,41 @@
+-- What the bytes of an input are answered.
+use Rattle.std.specs.Prelude.{◌≡◌, ℕ, List, false, true, Option, Some, None, Result, Ok, Err, codes, ⊤}
+use Rattle.script_form.specs.declared.config.Config.{Config}
+use Rattle.script_form.specs.declared.script.Line.{Line}
+use Rattle.script_form.specs.declared.script.LineFault.{LineFault}
+use Rattle.script_form.specs.Lines.{too_large, script_lines}
+use Rattle.script_form.specs.ReadConfig.{config_of}
+use Rattle.script_form.specs.ReadScript.{script_of}
+use Rattle.run_laws.specs.Rows.{Output}
+use Rattle.run_laws.specs.Lawful.{Lawful}
+use Rattle.run_laws.specs.OutputText.{output_text}
+use Rattle.solr_cli.specs.declared.status.Status.{Status}
+use Rattle.solr_cli.specs.declared.status.Status.TheVariants as status
+
+-- the input lies within the limits, and reads to this configuration and this script
+pub record ReadsTo (input : List ℕ) (config : Config) (script : List Line) : Type 0 where
+  pub within : too_large input ≡ false
+  pub config : config_of input ≡ Some config
+  pub script : script_of config.schema (script_lines input) ≡ Ok script
+
+-- the script's first fault
+pub record IsBadLine (input : List ℕ) (config : Config) (fault : LineFault) : Type 0 where
+  pub within : too_large input ≡ false
+  pub config : config_of input ≡ Some config
+  pub script : script_of config.schema (script_lines input) ≡ Err fault
+
+-- why an input is refused: each status has its cause in the bytes, and want of memory is free
+abbrev pub IsRefusal : List ℕ → Status → Type 0
+IsRefusal input status.Done = ⊥
+IsRefusal input status.Usage = ⊥
+IsRefusal input status.ReadFault = ⊥
+IsRefusal input status.WriteFault = ⊥
+IsRefusal input (status.BadConfig at name) = (too_large input ≡ false) × (config_of input ≡ None) × (at ≡ 0) × (name ≡ codes "config")
+IsRefusal input (status.BadLine line name) = (config : Config) × IsBadLine input config (record { line = line; name = name })
+IsRefusal input status.TooLarge = too_large input ≡ true
+IsRefusal input status.NoMemory = ⊤
+
+-- the input reads, its output is lawful, and this is the output's text
+abbrev pub IsAnswer : List ℕ → Output → List ℕ → Type 0
+IsAnswer input output text =
+    (config : Config) × (script : List Line) × ReadsTo input config script × Lawful config script output × (text ≡ output_text output)

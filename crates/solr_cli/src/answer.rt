@@ -1,0 +1,49 @@
+ghost use Rattle.std.specs.Prelude.{◌≡◌, MatchResult};
+ghost use Rattle.client_runner.specs.Outputs.{output_view};
+ghost use Rattle.solr_cli.specs.Answering.{IsAnswer, IsRefusal, ReadsTo};
+
+use crate::status::Status;
+use client_runner::{Output, output_text, run_script};
+use field_schema::Text;
+use rt_edge::Gate;
+use script_form::{ConfigRefusal, Config, Script, ScriptRefusal, read_config, read_script, too_large};
+use std::alloc::Global;
+
+/// The configuration and the script of an input, or the first status that refuses it.
+fn read_input(alloc: Global, bytes: &[u8]) -> Result<(Config, Script), Status>
+    ensures { MatchResult result (λ r. ReadsTo bytes.now r.0 r.1) (IsRefusal bytes.now) }
+{
+    if too_large(bytes) {
+        return Err(Status::TooLarge);
+    }
+    let (config, begin) = match read_config(alloc, bytes) {
+        Ok(read) => read,
+        Err(ConfigRefusal::Fault(fault)) => {
+            return Err(Status::BadConfig { at: fault.at, name: fault.name });
+        }
+        Err(ConfigRefusal::NoMemory) => return Err(Status::NoMemory),
+    };
+    match read_script(alloc, &config.schema, &bytes[begin..]) {
+        Ok(script) => Ok((config, script)),
+        Err(ScriptRefusal::Fault(fault)) => Err(Status::BadLine { line: fault.line, name: fault.name }),
+        Err(ScriptRefusal::NoMemory) => Err(Status::NoMemory),
+    }
+}
+
+/// Runs an input: its output and the output's text, or the first status that refuses it.
+pub(crate) fn answer<G: Gate>(
+    alloc: Global,
+    bytes: &[u8],
+    gate: &G,
+) -> Result<(Output, Text), Status>
+    ensures { MatchResult result (λ r. IsAnswer bytes.now (output_view r.0) r.1) (IsRefusal bytes.now) }
+{
+    let (config, script) = read_input(alloc, bytes)?;
+    let Ok(output) = run_script(alloc, &config, &script, gate) else {
+        return Err(Status::NoMemory);
+    };
+    let Ok(text) = output_text(alloc, &config, &output) else {
+        return Err(Status::NoMemory);
+    };
+    Ok((output, text))
+}

@@ -1,0 +1,111 @@
+ghost use Rattle.std.specs.Prelude.{◌≡◌, ◌≤◌, ◌↔◌, false, true, IfOk, IfErr, IfSome, map, string_bytes};
+ghost use Rattle.rt_edge.specs.Faults.{Rose};
+ghost use Rattle.run_laws.specs.OutputText.{output_text};
+ghost use Rattle.client_runner.specs.Outputs.{output_view};
+ghost use Rattle.solr_cli.specs.declared.status.Status.TheVariants as Status;
+ghost use Rattle.solr_cli.specs.Top.{Completes, IsExplained, IsReadRefusal, IsRunFrom, Refuses, WhereQuiet, Writes, is_run};
+
+use crate::answer::answer;
+use crate::reading::{ReadRefusal, read_all};
+use crate::status::Status;
+use crate::writing::write_text;
+use client_runner::Output;
+use field_schema::Text;
+use rt_edge::{Gate, Sink, Source};
+use std::alloc::Global;
+
+/// How a command ended, and the output whose text was written.
+#[derive(Debug, Drop)]
+pub struct Ran {
+    pub status: Status,
+    /// It is there exactly where the status is Done or WriteFault.
+    pub output: Option<Output>,
+}
+
+/// Whether the words are exactly `run`. It takes no memory.
+fn are_run(words: &[String]) -> bool
+    ensures { result ≡ is_run (map string_bytes words.now) }
+{
+    match words {
+        [word] => word.as_str() == "run",
+        _ => false,
+    }
+}
+
+/// Reads an input to its end and runs it.
+fn run_input<S: Source, G: Gate>(
+    alloc: Global,
+    input: &mut S,
+    gate: &G,
+) -> Result<(Output, Text), Status>
+    ensures later { S.faults input.old ≤ S.faults input.new }
+    ensures fault { IfErr result (λ s. s ≡ Status.ReadFault → Rose (S.faults input.old) (S.faults input.new)) }
+    ensures text { IfOk result (λ r. r.1 ≡ output_text (output_view r.0)) }
+    ensures ran { IfSome (S.left input.old) (λ bytes. IfOk result (λ r. IsRunFrom bytes (S.left input.new) r.0)) }
+    ensures refuses { IfErr result Refuses }
+    ensures refused { IfSome (S.left input.old) (λ bytes. IfErr result (IsReadRefusal bytes)) }
+{
+    match read_all(alloc, input) {
+        Ok(bytes) => answer(alloc, &bytes, gate),
+        Err(ReadRefusal::Fault) => Err(Status::ReadFault),
+        Err(ReadRefusal::NoMemory) => Err(Status::NoMemory),
+    }
+}
+
+/// Does what the words of a command line ask for: `run` reads the input to its end, runs its script and writes a
+/// line of JSON for each request and each searcher.
+///
+/// The words are those after the program's name. Statuses are looked at in this order: Usage, ReadFault, TooLarge,
+/// BadConfig, BadLine, want of memory in the run, WriteFault; want of memory may also come earlier. Only Done and
+/// WriteFault write, each write is lent all that is not yet written, and then `flush` is called once. Reading stops
+/// one byte over the greatest input. It costs the lengths of the input and of the output, and the run.
+pub fn run_top<S: Source, K: Sink, G: Gate>(
+    alloc: Global,
+    words: &[String],
+    input: &mut S,
+    out: &mut K,
+    gate: &G,
+) -> Ran
+    // The words alone tell whether there is a command; without one nothing is read or written.
+    ensures usage { (result.status ≡ Status.Usage) ↔ (is_run (map string_bytes words.now) ≡ false) }
+    ensures unread { result.status ≡ Status.Usage → input.new ≡ input.old }
+
+    // A fault is told only where the outside failed in this call.
+    ensures read_fault { result.status ≡ Status.ReadFault → Rose (S.faults input.old) (S.faults input.new) }
+    ensures write_fault { result.status ≡ Status.WriteFault → Rose (K.faults out.old) (K.faults out.new) }
+
+    // What is written is the text of the output that is handed back, or a front of it; else nothing is.
+    ensures quiet { WhereQuiet result.status (out.new ≡ out.old) }
+    ensures writes { Writes result.status result.output (K.held out.old) (K.held out.new) }
+
+    // Where the source tells its bytes, they explain the status: the run of an input that reads is lawful.
+    ensures explained { IfSome (S.left input.old) (λ bytes. IsExplained bytes (S.left input.new) result.status result.output) }
+
+    // An input that reads is run, unless memory was wanting or the outside failed.
+    ensures completes { IfSome (S.left input.old) (λ bytes. is_run (map string_bytes words.now) ≡ true
+        → (Rose (S.faults input.old) (S.faults input.new) → ⊥) → (Rose (K.faults out.old) (K.faults out.new) → ⊥)
+        → Completes result.status bytes) }
+{
+    if !are_run(words) {
+        return Ran {
+            status: Status::Usage,
+            output: None,
+        };
+    }
+    match run_input(alloc, input, gate) {
+        Ok((output, text)) => {
+            let status = match write_text(out, text.get().as_bytes()) {
+                Ok(()) => Status::Done,
+                Err(_) => Status::WriteFault,
+            };
+            Ran {
+                status,
+                output: Some(output),
+            }
+        }
+        Err(status) => Ran {
+            status,
+            output: None,
+        },
+    }
+}

@@ -1,0 +1,30 @@
+ghost use Rattle.std.specs.Prelude.{◌≡◌, IfOk, OnOk, OnErr};
+ghost use Rattle.rt_edge.specs.Faults.{HasCause};
+ghost use Rattle.std.specs.Io.KnownBytes.{Appends};
+ghost use Rattle.solr_cli.specs.Writing.{AppendsPart};
+
+use rt_edge::{Failed, Sink};
+
+/// Writes all of a text: each write is lent all that is not yet written.
+fn write_all<K: Sink>(out: &mut K, text: &[u8]) -> Result<(), Failed>
+    ensures ok { OnOk result (Appends (K.held out.old) (K.held out.new) text.now) }
+    ensures err { OnErr result (AppendsPart (K.held out.old) (K.held out.new) text.now) }
+    ensures cause { HasCause (K.faults out.old) (K.faults out.new) result }
+{
+    let mut rest = text;
+    while !rest.is_empty() {
+        let count = out.write(rest)?;
+        rest = &rest[count..];
+    }
+    Ok(())
+}
+
+/// Writes all of a text, and flushes once. After a fault a front of the text was written.
+pub(crate) fn write_text<K: Sink>(out: &mut K, text: &[u8]) -> Result<(), Failed>
+    ensures ok { OnOk result (Appends (K.held out.old) (K.held out.new) text.now) }
+    ensures err { OnErr result (AppendsPart (K.held out.old) (K.held out.new) text.now) }
+    ensures cause { HasCause (K.faults out.old) (K.faults out.new) result }
+{
+    write_all(out, text)?;
+    out.flush()
+}
