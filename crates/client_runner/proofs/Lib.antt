@@ -1,3 +1,4 @@
+pub mod PendingSlots
 pub mod Words
 pub mod Floats
 pub mod Filters
