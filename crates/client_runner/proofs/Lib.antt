@@ -16,3 +16,4 @@ pub mod Replies
 pub mod Rooms
 pub mod Commits
 pub mod LineTexts
+pub mod Joins

@@ -1,7 +1,11 @@
 -- The lines of the output, piece by piece.
-use Rattle.std.specs.Prelude.{ℕ, List, [], ◌++◌, Bool, true, false, not, Option, Some, None, codes, decimal}
+use Rattle.std.specs.Prelude.{◌≡◌, ℕ, List, [], ◌++◌, Bool, true, false, not, Option, Some, None, codes, decimal}
 use Rattle.std.specs.Option.{option_map}
 use Rattle.run_laws.specs.Rows.{RequestRow, SearcherRow}
+
+-- the text has grown by a piece
+pub record Grows (old new piece : List ℕ) : Type 0 where
+  pub is : new ≡ old ++ piece
 
 -- a piece with a number, where there is one
 abbrev pub optional_piece : List ℕ → Option ℕ → List ℕ

@@ -1,8 +1,8 @@
-ghost use Rattle.std.specs.Prelude.{◌≡◌, ◌++◌, IfOk, OnOk, Option, Some, None, codes, decimal, map, string_bytes};
+ghost use Rattle.std.specs.Prelude.{◌≡◌, IfOk, OnOk, Some, string_bytes};
 ghost use Rattle.std.specs.List.{flat_map};
 ghost use Rattle.std.specs.Option.{option_map};
 ghost use Rattle.run_laws.specs.OutputText.{output_text as text_of_output};
-ghost use Rattle.client_runner.specs.Lines.{end_piece, from_piece, number_piece, optional_piece, request_line, searcher_line};
+ghost use Rattle.client_runner.specs.Lines.{Grows, end_piece, from_piece, number_piece, optional_piece, request_line, searcher_line};
 ghost use Rattle.client_runner.specs.Outputs.{output_view};
 ghost use Rattle.client_runner.specs.Views.{request_view, searcher_view};
 
@@ -11,95 +11,115 @@ use field_schema::{NoMemory, Text};
 use script_form::Config;
 use std::alloc::Global;
 
+/// Writes a piece.
+fn put_text(out: &mut String, piece: &str) -> Result<(), NoMemory>
+    ensures { OnOk result (Grows (string_bytes out.old) (string_bytes out.new) piece.now) }
+{
+    out.push_str(piece)?;
+    Ok(())
+}
+
+/// Writes a reply.
+fn put_reply(out: &mut String, reply: &Text) -> Result<(), NoMemory>
+    ensures { OnOk result (Grows (string_bytes out.old) (string_bytes out.new) reply.now) }
+{
+    put_text(out, reply.get())
+}
+
 /// Writes a piece and a number behind it.
 fn put_number(out: &mut String, piece: &str, number: u64) -> Result<(), NoMemory>
-    ensures { OnOk result (string_bytes out.new ≡ string_bytes out.old ++ number_piece piece.now number) }
+    ensures { OnOk result (Grows (string_bytes out.old) (string_bytes out.new) (number_piece piece.now number)) }
 {
     write!(out, "{piece}{number}")?;
     Ok(())
 }
 
-/// Writes a piece and a number behind it, where there is one.
-fn put_optional(out: &mut String, piece: &str, number: Option<u64>) -> Result<(), NoMemory>
-    ensures { OnOk result (string_bytes out.new ≡ string_bytes out.old ++ optional_piece piece.now number) }
+/// The same of a smaller number.
+fn put_small(out: &mut String, piece: &str, number: u32) -> Result<(), NoMemory>
+    ensures { OnOk result (Grows (string_bytes out.old) (string_bytes out.new) (number_piece piece.now number)) }
 {
-    match number {
-        Some(number) => put_number(out, piece, number),
-        None => Ok(()),
+    put_number(out, piece, u64::from(number))
+}
+
+/// Writes a piece and a place behind it, where there is one.
+fn put_place(out: &mut String, piece: &str, place: Option<u64>) -> Result<(), NoMemory>
+    ensures { OnOk result (Grows (string_bytes out.old) (string_bytes out.new) (optional_piece piece.now place)) }
+{
+    match place {
+        Some(place) => put_number(out, piece, place),
+        None => put_text(out, ""),
     }
 }
 
 /// The same of a smaller number.
-fn put_small(out: &mut String, piece: &str, number: Option<u32>) -> Result<(), NoMemory>
-    ensures { OnOk result (string_bytes out.new ≡ string_bytes out.old ++ optional_piece piece.now number) }
+fn put_optional(out: &mut String, piece: &str, number: Option<u32>) -> Result<(), NoMemory>
+    ensures { OnOk result (Grows (string_bytes out.old) (string_bytes out.new) (optional_piece piece.now number)) }
 {
     match number {
-        Some(number) => put_number(out, piece, u64::from(number)),
-        None => Ok(()),
+        Some(number) => put_small(out, piece, number),
+        None => put_text(out, ""),
     }
 }
 
 /// Writes the line of a request.
 fn put_request(out: &mut String, row: &RequestRow) -> Result<(), NoMemory>
-    ensures { OnOk result (string_bytes out.new ≡ string_bytes out.old ++ request_line (request_view row.now)) }
+    ensures { OnOk result (Grows (string_bytes out.old) (string_bytes out.new) (request_line (request_view row.now))) }
 {
-    put_number(out, "{\"client\":", u64::from(row.client))?;
-    put_small(out, ",\"generation\":", row.generation)?;
-    put_number(out, ",\"line\":", u64::from(row.line))?;
-    put_optional(out, ",\"place\":", row.place)?;
-    out.push_str(",\"reply\":")?;
-    out.push_str(row.reply.get())?;
-    put_small(out, ",\"ticket\":", row.ticket)?;
-    out.push_str("}\n")?;
-    Ok(())
+    put_small(out, "{\"client\":", row.client)?;
+    put_optional(out, ",\"generation\":", row.generation)?;
+    put_small(out, ",\"line\":", row.line)?;
+    put_place(out, ",\"place\":", row.place)?;
+    put_text(out, ",\"reply\":")?;
+    put_reply(out, &row.reply)?;
+    put_optional(out, ",\"ticket\":", row.ticket)?;
+    put_text(out, "}\n")
 }
 
 /// Writes the place of a searcher's end under one of its names.
 fn put_end(out: &mut String, told: bool, piece: &str, place: u64) -> Result<(), NoMemory>
-    ensures { OnOk result (string_bytes out.new ≡ string_bytes out.old ++ end_piece told piece.now place) }
+    ensures { OnOk result (Grows (string_bytes out.old) (string_bytes out.new) (end_piece told piece.now place)) }
 {
     if told {
         put_number(out, piece, place)
     } else {
-        Ok(())
+        put_text(out, "")
     }
 }
 
 /// Writes a generation and a ticket.
 fn put_pin(out: &mut String, generation: u32, ticket: u32) -> Result<(), NoMemory>
-    ensures { OnOk result (string_bytes out.new ≡ string_bytes out.old ++ from_piece (Some (generation, ticket))) }
+    ensures { OnOk result (Grows (string_bytes out.old) (string_bytes out.new) (from_piece (Some (generation, ticket)))) }
 {
-    put_number(out, ",\"from\":", u64::from(generation))?;
-    put_number(out, ",\"fromTicket\":", u64::from(ticket))
+    put_small(out, ",\"from\":", generation)?;
+    put_small(out, ",\"fromTicket\":", ticket)
 }
 
 /// Writes the generation and the ticket from which a searcher was warmed.
 fn put_from(out: &mut String, from: Option<(u32, u32)>) -> Result<(), NoMemory>
-    ensures { OnOk result (string_bytes out.new ≡ string_bytes out.old ++ from_piece (option_map (λ p. (p.0, p.1)) from)) }
+    ensures { OnOk result (Grows (string_bytes out.old) (string_bytes out.new) (from_piece (option_map (λ p. (p.0, p.1)) from))) }
 {
     match from {
         Some((generation, ticket)) => put_pin(out, generation, ticket),
-        None => Ok(()),
+        None => put_text(out, ""),
     }
 }
 
 /// Writes the line of a searcher.
 fn put_searcher(out: &mut String, row: &SearcherRow) -> Result<(), NoMemory>
-    ensures { OnOk result (string_bytes out.new ≡ string_bytes out.old ++ searcher_line (searcher_view row.now)) }
+    ensures { OnOk result (Grows (string_bytes out.old) (string_bytes out.new) (searcher_line (searcher_view row.now))) }
 {
-    put_number(out, "{\"acquired\":", u64::from(row.acquired))?;
+    put_small(out, "{\"acquired\":", row.acquired)?;
     put_end(out, row.registered, ",\"finished\":", row.ended)?;
     put_from(out, row.from)?;
-    put_number(out, ",\"generation\":", u64::from(row.generation))?;
+    put_small(out, ",\"generation\":", row.generation)?;
     put_number(out, ",\"opened\":", row.opened)?;
     put_end(out, !row.registered, ",\"superseded\":", row.ended)?;
-    out.push_str("}\n")?;
-    Ok(())
+    put_text(out, "}\n")
 }
 
 /// Writes the lines of requests.
 fn put_requests(out: &mut String, rows: &[RequestRow]) -> Result<(), NoMemory>
-    ensures { OnOk result (string_bytes out.new ≡ string_bytes out.old ++ flat_map (λ r. request_line (request_view r)) rows.now) }
+    ensures { OnOk result (Grows (string_bytes out.old) (string_bytes out.new) (flat_map (λ r. request_line (request_view r)) rows.now)) }
 {
     for row in rows {
         put_request(out, row)?;
@@ -109,7 +129,7 @@ fn put_requests(out: &mut String, rows: &[RequestRow]) -> Result<(), NoMemory>
 
 /// Writes the lines of searchers.
 fn put_searchers(out: &mut String, rows: &[SearcherRow]) -> Result<(), NoMemory>
-    ensures { OnOk result (string_bytes out.new ≡ string_bytes out.old ++ flat_map (λ r. searcher_line (searcher_view r)) rows.now) }
+    ensures { OnOk result (Grows (string_bytes out.old) (string_bytes out.new) (flat_map (λ r. searcher_line (searcher_view r)) rows.now)) }
 {
     for row in rows {
         put_searcher(out, row)?;

@@ -1,9 +1,17 @@
-use Rattle.std.proofs.Common.{◌≡◌, ◌++◌, append_assoc}
+use Rattle.std.proofs.lemmas.Result.{IfOk-weaker}
+use Rattle.client_runner.proofs.Joins.{join}
 use Rattle.client_runner.proofs.output.put_request.Goals as goal
 
 -- piece behind piece
 pub returns : goal.returns
 returns c =
-    rw (c.in_ok-push_str-3.ensures.bytes, c.in_ok-put_small-2.ensures, c.in_ok-push_str-2.ensures.bytes, c.in_ok-push_str.ensures.bytes,
-      c.in_ok-put_optional.ensures, c.in_ok-put_number-2.ensures, c.in_ok-put_small.ensures, c.in_ok-put_number.ensures, c.from.ensures, c.from-2.ensures, c.get.ensures)
-    (simp append_assoc (simp append_assoc (simp append_assoc)))
+    IfOk-weaker c.put_text-2.result _ _
+    (λ u h.
+    join c.in_ok-put_small.ensures
+    (join c.in_ok-put_optional.ensures
+    (join c.in_ok-put_small-2.ensures
+    (join c.in_ok-put_place.ensures
+    (join c.in_ok-put_text.ensures
+    (join c.in_ok-put_reply.ensures
+    (join c.in_ok-put_optional-2.ensures h)))))))
+    c.put_text-2.ensures
