@@ -1,9 +1,8 @@
 -- The two forms of a set.
 use Rattle.std.specs.Prelude.{◌≡◌, ℕ, ◌≤◌, List, length}
 use Rattle.std.specs.FinSet.{from_list}
-use Rattle.doc_sets.specs.Sets.{Numbers, Rises}
+use Rattle.doc_sets.specs.Sets.{Numbers, IsAscending}
 use Rattle.doc_sets.specs.Rows.{numbers_of}
-use Rattle.doc_sets.specs.declared.TheConstants.{MAX_DOCS}
 use Rattle.doc_sets.specs.declared.doc_set.Form.{Form}
 use Rattle.doc_sets.specs.declared.doc_set.Form.TheVariants.{Listed, Bits}
 
@@ -18,5 +17,5 @@ set_of form = from_list (numbers_in form)
 
 -- a list strictly ascends, and no row is longer than that of a full set
 abbrev pub IsForm : Form → Type 0
-IsForm (Listed numbers) = Rises 0 MAX_DOCS numbers.items
+IsForm (Listed numbers) = IsAscending numbers.items
 IsForm (Bits words) = length words.items ≤ 4096

@@ -29,3 +29,7 @@ is_in xs n = list_any (λ x. nat_eq x n) xs
 abbrev pub Rises : ℕ → ℕ → List ℕ → Type 0
 Rises low high [] = Unit {0}
 Rises low high (x ∷ xs) = (low ≤ x) × (x < high) × Rises (suc x) high xs
+
+-- the list is of documents' numbers and strictly ascends
+abbrev pub IsAscending : List ℕ → Type 0
+IsAscending xs = Rises 0 MAX_DOCS xs

@@ -1,7 +1,8 @@
-ghost use Rattle.std.specs.Prelude.{◌≡◌, ◌<◌, ◌≤◌, IfOk, IsTrue, All, length, vec_len};
+ghost use Rattle.std.specs.Prelude.{◌≡◌, ◌*◌, ◌<◌, ◌≤◌, nat_lt, IfOk, IsTrue, All, length, vec_len};
 ghost use Rattle.std.specs.List.Sorted.{IsStrictlyIncreasing};
 ghost use Rattle.std.specs.FinSet as set;
-ghost use Rattle.doc_sets.specs.Sets.{AreDocuments, members, Rises};
+ghost use Rattle.doc_sets.specs.Sets.{AreDocuments, members, IsAscending};
+ghost use Rattle.doc_sets.specs.declared.TheConstants.{MAX_DOCS};
 ghost use Rattle.doc_sets.specs.Rows.{numbers_of};
 
 use crate::walk::DocSetIter;
@@ -173,13 +174,16 @@ impl DocSet {
 }
 
 /// Whether a list of `count` numbers of 32 bits is larger than a row of `words`.
-fn bits_are_smaller(count: usize, words: usize) -> bool {
+fn bits_are_smaller(count: usize, words: usize) -> bool
+    requires { words ≤ 4096 }
+    ensures { result ≡ nat_lt (2 * words) count }
+{
     count > 2 * words
 }
 
 /// The set of ascending numbers, as a list.
 fn of_list(numbers: Vec<DocNo>) -> DocSet
-    requires { Rises 0 MAX_DOCS numbers.items }
+    requires { IsAscending numbers.items }
     ensures { result ≡ set.from_list numbers.items }
 {
     let count = numbers.len() as u32;
@@ -203,7 +207,7 @@ fn of_row(words: Vec<u64>) -> DocSet
 
 /// The set of ascending numbers, in the smaller form.
 fn settled_list(alloc: Global, numbers: Vec<DocNo>) -> Result<DocSet, NoMemory>
-    requires { Rises 0 MAX_DOCS numbers.items }
+    requires { IsAscending numbers.items }
     ensures { IfOk result (λ s. s ≡ set.from_list numbers.items) }
 {
     if bits_are_smaller(numbers.len(), rows::words_for(&numbers)) {
