@@ -1,8 +1,9 @@
 -- Facts on lists that strictly ascend, and on what they have.
-use Rattle.std.proofs.Common.{◌≡◌, ℕ, zero, suc, ◌+◌, ◌-◌, ◌<◌, ◌≤◌, Bool, true, false, cond, not, ◌&&◌, ◌||◌, eqb, List, [], ◌∷◌, ◌++◌, length, get_or, slice_get, filter, Result, Ok, Err, is_ok, MatchResult, All, inl, inr, ◌⊎◌, Some, refl, sym, ap, subst, ◌∙◌, arith, add-one}
+use Rattle.std.proofs.Common.{◌≡◌, ℕ, zero, suc, ◌+◌, ◌-◌, ◌<◌, ◌≤◌, Bool, true, false, cond, not, ◌&&◌, ◌||◌, eqb, List, [], ◌∷◌, ◌++◌, length, get_or, take, slice_get, filter, Result, Ok, Err, is_ok, MatchResult, All, inl, inr, ◌⊎◌, Some, refl, sym, ap, subst, ◌∙◌, arith, add-one}
 use Rattle.std.specs.List.{range_with_len}
 use Rattle.std.specs.List.Sorted.{IsStrictlyIncreasing}
 use Rattle.std.proofs.lemmas.Bool.{eq-eqb, ne_eqb, eqb-true, cases_order, cases_lt, false≢true, or_right}
+use Rattle.std.proofs.lemmas.List.{take_more}
 use Rattle.std.proofs.lemmas.List.Elements.{All-head, All-tail}
 use Rattle.doc_sets.specs.Sets.{is_in, Rises}
 
@@ -234,3 +235,37 @@ past_first least high first rest others numbers e p r same =
     let cut : Rises 0 high (first ∷ others) = subst (Rises 0 high) e r in
     (Rises-lower 0 (suc first) high others (omega arith) cut.2,
      λ n q. sym (ap (λ b. b || is_in others n) (ne_eqb first n (λ h. omega arith))) ∙ sym (ap (λ xs. is_in xs n) e) ∙ same n q)
+
+pub slice_get-is : (xs : List ℕ) (i v : ℕ) → Some v ≡ slice_get xs i → (i < length xs) × (get_or xs i 0 ≡ v)
+slice_get-is [] i v e = absurd (cc)
+slice_get-is (x ∷ xs) zero v e = (omega arith, cc)
+slice_get-is (x ∷ xs) (suc i) v e = let later = slice_get-is xs i v e in (omega arith, later.1)
+
+-- where a number of the list stands
+pub place_of : (xs : List ℕ) (n : ℕ) → is_in xs n ≡ true → (k : ℕ) × (k < length xs) × (get_or xs k 0 ≡ n)
+place_of [] n e = absurd (false≢true e)
+place_of (x ∷ xs) n e =
+    elim (cases_order x n) [
+      | inl same ↦ (0, omega arith, same)
+      | inr other ↦
+          let later = place_of xs n (rw (ne_eqb x n (apart x n other)) at e) in
+          (suc later.0, omega arith, later.2)
+    ]
+
+-- none is above the last
+pub is_in-last : (low high v n : ℕ) (xs : List ℕ) → Rises low high xs → Some v ≡ slice_get xs (length xs - 1) → is_in xs n ≡ true → n ≤ v
+is_in-last low high v n xs r last e =
+    let at = place_of xs n e in
+    let end = slice_get-is xs (length xs - 1) v last in
+    let below = Rises-not_falling low high xs r at.0 (length xs - 1) (omega arith) end.0 in
+    omega arith
+
+pub last-within : (low high v : ℕ) (xs : List ℕ) → Rises low high xs → Some v ≡ slice_get xs (length xs - 1) → v < high
+last-within low high v xs r last =
+    let end = slice_get-is xs (length xs - 1) v last in
+    let within = Rises-at low high (length xs - 1) xs r end.0 in
+    omega arith
+
+-- one more number of a list
+pub is_in-take_more : (xs : List ℕ) (i n : ℕ) → i < length xs → is_in (take (i + 1) xs) n ≡ (is_in (take i xs) n || eqb (get_or xs i 0) n)
+is_in-take_more xs i n within = ap (λ ys. is_in ys n) (take_more xs i 0 within) ∙ is_in-append (take i xs) (get_or xs i 0 ∷ []) n ∙ ap (λ b. is_in (take i xs) n || b) (or-false (eqb (get_or xs i 0) n))
