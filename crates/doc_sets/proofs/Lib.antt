@@ -1,7 +1,9 @@
 pub mod BitChanges
 pub mod Bits
+pub mod Empty
 pub mod Kept
 pub mod Merging
 pub mod Rising
 pub mod SetsOf
 pub mod Walking
+pub mod WordByWord
