@@ -1,5 +1,6 @@
 pub mod BitChanges
 pub mod Bits
+pub mod Counting
 pub mod Empty
 pub mod Kept
 pub mod Merging
