@@ -3,6 +3,8 @@ pub mod Bits
 pub mod Counting
 pub mod Empty
 pub mod Kept
+pub mod Lefts
+pub mod Lowest
 pub mod Merging
 pub mod Rising
 pub mod SetsOf
