@@ -5,6 +5,7 @@ pub mod Empty
 pub mod Kept
 pub mod Lefts
 pub mod Lowest
+pub mod Members
 pub mod Merging
 pub mod Rising
 pub mod SetsOf

@@ -1,6 +1,7 @@
 -- Sets of document numbers, and lists of them in order.
-use Rattle.std.specs.Prelude.{◌≡◌, ℕ, suc, ◌<◌, ◌≤◌, Bool, true, List, [], ◌∷◌, nat_eq, filter}
+use Rattle.std.specs.Prelude.{◌≡◌, ℕ, suc, ◌<◌, ◌≤◌, Bool, true, List, [], ◌∷◌, nat_eq, filter, All}
 use Rattle.std.specs.List.{list_any, range_with_len}
+use Rattle.std.specs.List.Sorted.{IsStrictlyIncreasing}
 use Rattle.std.specs.Ordering.{nat_cmp}
 use Rattle.std.specs.FinSet.{FinSet, contains}
 use Rattle.doc_sets.specs.declared.TheConstants.{MAX_DOCS}
@@ -33,3 +34,9 @@ Rises low high (x ∷ xs) = (low ≤ x) × (x < high) × Rises (suc x) high xs
 -- the list is of documents' numbers and strictly ascends
 abbrev pub IsAscending : List ℕ → Type 0
 IsAscending xs = Rises 0 MAX_DOCS xs
+
+-- the list has all members and nothing else, each once, ascending, and each is the number of a document
+pub record IsListing (s : Numbers) (xs : List ℕ) : Type 0 where
+  pub rising : IsStrictlyIncreasing xs
+  pub documents : All (λ n. n < MAX_DOCS) xs
+  pub same : (n : ℕ) → is_in xs n ≡ contains s n

@@ -1,7 +1,7 @@
 ghost use Rattle.std.specs.Prelude.{◌≡◌, ◌*◌, ◌<◌, ◌≤◌, nat_lt, IfOk, IsTrue, All, length, vec_len};
 ghost use Rattle.std.specs.List.Sorted.{IsStrictlyIncreasing};
 ghost use Rattle.std.specs.FinSet as set;
-ghost use Rattle.doc_sets.specs.Sets.{AreDocuments, members, IsAscending};
+ghost use Rattle.doc_sets.specs.Sets.{AreDocuments, members, IsAscending, IsListing};
 ghost use Rattle.doc_sets.specs.declared.TheConstants.{MAX_DOCS};
 ghost use Rattle.doc_sets.specs.Rows.{numbers_of};
 
@@ -164,7 +164,7 @@ impl DocSet {
     /// Walks along the members, ascending. Takes no memory, and skips empty words in one step each.
     pub fn iter(&self) -> DocSetIter<'_>
         ensures members { result ≡ members self.now }
-        ensures documents { AreDocuments self.now }
+        ensures listing { IsListing self.now (members self.now) }
     {
         match &self.form {
             Form::Listed(numbers) => DocSetIter::along_list(numbers),
