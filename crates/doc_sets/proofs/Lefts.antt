@@ -20,9 +20,9 @@ Rises-map k low high (x ∷ xs) r =
 
 eqb_shift : (k x n : ℕ) → k ≤ n → nat_eq (k + x) n ≡ nat_eq x (n - k)
 eqb_shift k x n p = elim (cases_eq x (n - k)) [
-    | inl same ↦ eq-eqb (k + x) n (omega arith) ∙ sym (eq-eqb x (n - k) same)
-    | inr other ↦ ne_eqb (k + x) n (λ e. other (omega arith)) ∙ sym (ne_eqb x (n - k) other)
-  ]
+  | inl same ↦ eq-eqb (k + x) n (omega arith) ∙ sym (eq-eqb x (n - k) same)
+  | inr other ↦ ne_eqb (k + x) n (λ e. other (omega arith)) ∙ sym (ne_eqb x (n - k) other)
+]
 
 is_in-map : (k n : ℕ) (xs : List ℕ) → k ≤ n → is_in (map (λ x. k + x) xs) n ≡ is_in xs (n - k)
 is_in-map k n [] p = refl
@@ -32,20 +32,20 @@ is_in-map k n (x ∷ xs) p = (λ i. eqb_shift k x n p i || is_in-map k n xs p i)
 numbers_of-empty_first : (ws : List ℕ) → numbers_of (0 ∷ ws) ≡ map (λ n. 64 + n) (numbers_of ws)
 numbers_of-empty_first ws =
     numbers_of-same (64 + 64 * length ws) (0 ∷ ws) _ (omega arith)
-      (Rises-lower 0 (64 + 0) (64 + 64 * length ws) (map (λ n. 64 + n) (numbers_of ws)) (omega arith) (Rises-map 64 0 (64 * length ws) (numbers_of ws) (Rises-numbers_of ws)))
-      (λ n. elim (cases_lt n 64) [
-        | inl first ↦
-            let place : n / 64 ≡ 0 = omega arith in
-            has_bit-is (0 ∷ ws) n ∙ ap (λ k. nat_eq (bit_at (get_or (0 ∷ ws) k 0) (n % 64)) 1) place ∙ ap (λ v. nat_eq v 1) (bit_at-zero (n % 64))
-            ∙ sym (is_in-below (64 + 0) (64 + 64 * length ws) (map (λ n. 64 + n) (numbers_of ws)) n (Rises-map 64 0 (64 * length ws) (numbers_of ws) (Rises-numbers_of ws)) (omega arith))
-        | inr later ↦
-            let place : n / 64 ≡ suc ((n - 64) / 64) = omega arith in
-            let bit : n % 64 ≡ (n - 64) % 64 = omega arith in
-            has_bit-is (0 ∷ ws) n
-            ∙ ap (λ k. nat_eq (bit_at (get_or (0 ∷ ws) k 0) (n % 64)) 1) place
-            ∙ ap (λ k. nat_eq (bit_at (get_or ws ((n - 64) / 64) 0) k) 1) bit
-            ∙ sym (is_in-map 64 n (numbers_of ws) later ∙ is_in-numbers_of ws (n - 64) ∙ has_bit-is ws (n - 64))
-      ])
+    (Rises-lower 0 (64 + 0) (64 + 64 * length ws) (map (λ n. 64 + n) (numbers_of ws)) (omega arith) (Rises-map 64 0 (64 * length ws) (numbers_of ws) (Rises-numbers_of ws)))
+    (λ n. elim (cases_lt n 64) [
+      | inl first ↦
+          let place : n / 64 ≡ 0 = omega arith in
+          has_bit-is (0 ∷ ws) n ∙ ap (λ k. nat_eq (bit_at (get_or (0 ∷ ws) k 0) (n % 64)) 1) place ∙ ap (λ v. nat_eq v 1) (bit_at-zero (n % 64))
+          ∙ sym (is_in-below (64 + 0) (64 + 64 * length ws) (map (λ n. 64 + n) (numbers_of ws)) n (Rises-map 64 0 (64 * length ws) (numbers_of ws) (Rises-numbers_of ws)) (omega arith))
+      | inr later ↦
+          let place : n / 64 ≡ suc ((n - 64) / 64) = omega arith in
+          let bit : n % 64 ≡ (n - 64) % 64 = omega arith in
+          has_bit-is (0 ∷ ws) n
+          ∙ ap (λ k. nat_eq (bit_at (get_or (0 ∷ ws) k 0) (n % 64)) 1) place
+          ∙ ap (λ k. nat_eq (bit_at (get_or ws ((n - 64) / 64) 0) k) 1) bit
+          ∙ sym (is_in-map 64 n (numbers_of ws) later ∙ is_in-numbers_of ws (n - 64) ∙ has_bit-is ws (n - 64))
+    ])
 
 map_map : (j k : ℕ) (xs : List ℕ) → map (λ n. j + n) (map (λ n. k + n) xs) ≡ map (λ n. j + k + n) xs
 map_map j k [] = refl
@@ -98,14 +98,14 @@ split_bit w t ws n small low =
     elim (cases_lt n 64) [
       | inr later ↦ tail_bit w cut ws n later ∙ sym (ap (λ b. b || has_bit (cut ∷ ws) n) (ne_eqb t n (λ e. omega arith)))
       | inl first ↦ head_bit w ws n first ∙ elim (cases_order n t) [
-          | inl here ↦ ap (λ k. nat_eq (bit_at w k) 1) here ∙ ap (λ v. nat_eq v 1) low.one ∙ sym (ap (λ b. b || has_bit (cut ∷ ws) n) (eq-eqb t n (sym here)))
-          | inr (inl below) ↦
-              ap (λ v. nat_eq v 1) (low.zeros n below)
-              ∙ sym (ap (λ b. b || has_bit (cut ∷ ws) n) (ne_eqb t n (λ e. omega arith)) ∙ head_bit cut ws n first ∙ ap (λ v. nat_eq v 1) (cleared_low w t n low (omega arith)))
-          | inr (inr above) ↦
-              ap (λ v. nat_eq v 1) (sym (cleared_high w t n low above)) ∙ sym (head_bit cut ws n first)
-              ∙ sym (ap (λ b. b || has_bit (cut ∷ ws) n) (ne_eqb t n (λ e. omega arith)))
-        ]
+        | inl here ↦ ap (λ k. nat_eq (bit_at w k) 1) here ∙ ap (λ v. nat_eq v 1) low.one ∙ sym (ap (λ b. b || has_bit (cut ∷ ws) n) (eq-eqb t n (sym here)))
+        | inr (inl below) ↦
+            ap (λ v. nat_eq v 1) (low.zeros n below)
+            ∙ sym (ap (λ b. b || has_bit (cut ∷ ws) n) (ne_eqb t n (λ e. omega arith)) ∙ head_bit cut ws n first ∙ ap (λ v. nat_eq v 1) (cleared_low w t n low (omega arith)))
+        | inr (inr above) ↦
+            ap (λ v. nat_eq v 1) (sym (cleared_high w t n low above)) ∙ sym (head_bit cut ws n first)
+            ∙ sym (ap (λ b. b || has_bit (cut ∷ ws) n) (ne_eqb t n (λ e. omega arith)))
+      ]
     ]
 
 above_lowest : (w t : ℕ) (ws : List ℕ) (n : ℕ) → t < 64 → LowestOne w t → has_bit (bit_and w (w - 1) ∷ ws) n ≡ true → suc t ≤ n
@@ -119,8 +119,8 @@ numbers_of-next : (w t : ℕ) (ws : List ℕ) → t < 64 → LowestOne w t → n
 numbers_of-next w t ws small low =
     let cut = bit_and w (w - 1) in
     numbers_of-same (64 * length (cut ∷ ws)) (w ∷ ws) (t ∷ numbers_of (cut ∷ ws)) (omega arith)
-      (omega arith, omega arith, Rises-raise 0 (suc t) (64 * length (cut ∷ ws)) (numbers_of (cut ∷ ws)) (Rises-numbers_of (cut ∷ ws)) (λ n e. above_lowest w t ws n small low (sym (is_in-numbers_of (cut ∷ ws) n) ∙ e)))
-      (λ n. split_bit w t ws n small low ∙ ap (λ b. nat_eq t n || b) (sym (is_in-numbers_of (cut ∷ ws) n)))
+    (omega arith, omega arith, Rises-raise 0 (suc t) (64 * length (cut ∷ ws)) (numbers_of (cut ∷ ws)) (Rises-numbers_of (cut ∷ ws)) (λ n e. above_lowest w t ws n small low (sym (is_in-numbers_of (cut ∷ ws) n) ∙ e)))
+    (λ n. split_bit w t ws n small low ∙ ap (λ b. nat_eq t n || b) (sym (is_in-numbers_of (cut ∷ ws) n)))
 
 -- the lowest one of the word comes next
 pub left_next : (base word : ℕ) (words : List ℕ) → 0 < word → word < 2 ^ 64 → numbers_left base word words ≡ (base + trailing_zeros w64 word) ∷ numbers_left base (bit_and word (word - 1)) words
@@ -137,7 +137,7 @@ pub walking_more : {start : List ℕ} {base word : ℕ} {words : List ℕ} (next
 walking_more {start} {base} {word} {words} next rest w empty e =
     record {
       same = sym (left_empty base next rest) ∙ sym (λ i. numbers_left base (empty i) (e i)) ∙ w.same;
-      within = omega (arith, w.within, ap length e)
+      within = omega (arith, w.within, ap length e);
     }
 
 left_ends : (base word : ℕ) (words : List ℕ) → word ≡ 0 → length words ≡ 0 → numbers_left base word words ≡ []

@@ -58,5 +58,5 @@ pub cleared_high : (w t i : ℕ) → LowestOne w t → t < i → bit_at (bit_and
 cleared_high w t i low p =
     let half = pow_below t (t + 1) (omega arith) in
     bit_at_and w (w - 1) i ∙ min_same (bit_at w i) (bit_at (w - 1) i) (bit_at (w / 2 ^ (t + 1)) (i - (t + 1)))
-      (ap (λ v. bit_at v i) (whole w t low) ∙ bit_at_cat_high (w / 2 ^ (t + 1)) (t + 1) (2 ^ t) i half (omega arith))
-      (ap (λ v. bit_at v i) (one_less w t low) ∙ bit_at_cat_high (w / 2 ^ (t + 1)) (t + 1) (2 ^ t - 1) i (omega (arith, half)) (omega arith))
+    (ap (λ v. bit_at v i) (whole w t low) ∙ bit_at_cat_high (w / 2 ^ (t + 1)) (t + 1) (2 ^ t) i half (omega arith))
+    (ap (λ v. bit_at v i) (one_less w t low) ∙ bit_at_cat_high (w / 2 ^ (t + 1)) (t + 1) (2 ^ t - 1) i (omega (arith, half)) (omega arith))

@@ -30,7 +30,7 @@ all_documents xs r = All-from_get_or (λ n. n < MAX_DOCS) xs 0 (λ i p. (Rises-a
 
 pub listing_of : (s : Numbers) → AreDocuments s → IsListing s (members s)
 listing_of s within = record {
-    rising = increasing (members s) (ascending-members s);
-    documents = all_documents (members s) (ascending-members s);
-    same = λ n. is_in-members s n within
-  }
+  rising = increasing (members s) (ascending-members s);
+  documents = all_documents (members s) (ascending-members s);
+  same = λ n. is_in-members s n within;
+}

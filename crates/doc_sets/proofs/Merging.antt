@@ -62,32 +62,35 @@ merging_more {left} {right} {merged} {left_rest} {right_rest} first second least
     let left_past : Rises (suc least) MAX_DOCS left_next = subst (λ (k : ℕ). Rises k MAX_DOCS left_next) one rl in
     let right_past : Rises (suc least) MAX_DOCS right_next = subst (λ (k : ℕ). Rises k MAX_DOCS right_next) one rr in
     let has_least : (n : ℕ) → eqb least n ≡ true → (is_in left_rest n || is_in right_rest n) ≡ true = λ n e.
-      elim (cases_lt second first) [
-        | inl less ↦ or_right (is_in left_rest n) (is_in right_rest n) (ap (is_in right_rest) (sym (eqb-true least n e) ∙ omega arith) ∙ b.3)
-        | inr more ↦ or_left (is_in left_rest n) (is_in right_rest n) (ap (is_in left_rest) (sym (eqb-true least n e) ∙ omega arith) ∙ a.3)
-      ] in
-    (record {
-      rises = subst (Rises 0 MAX_DOCS) (sym pushed) (Rises-push 0 MAX_DOCS merged least m.rises from within);
-      left_rises = rw end left_past;
-      right_rises = rw end right_past;
-      same = λ n.
-        ap (λ xs. is_in xs n || (is_in left_next n || is_in right_next n)) pushed
-        ∙ ap (λ b. b || (is_in left_next n || is_in right_next n)) (is_in-append merged (least ∷ []) n)
-        ∙ merge_bits (is_in merged n) (is_in left_rest n) (is_in right_rest n) (is_in left_next n) (is_in right_next n) (eqb least n)
+    elim (cases_lt second first) [
+      | inl less ↦ or_right (is_in left_rest n) (is_in right_rest n) (ap (is_in right_rest) (sym (eqb-true least n e) ∙ omega arith) ∙ b.3)
+      | inr more ↦ or_left (is_in left_rest n) (is_in right_rest n) (ap (is_in left_rest) (sym (eqb-true least n e) ∙ omega arith) ∙ a.3)
+    ] in (
+      record {
+        rises = subst (Rises 0 MAX_DOCS) (sym pushed) (Rises-push 0 MAX_DOCS merged least m.rises from within);
+        left_rises = rw end left_past;
+        right_rises = rw end right_past;
+        same = λ n.
+            ap (λ xs. is_in xs n || (is_in left_next n || is_in right_next n)) pushed
+            ∙ ap (λ b. b || (is_in left_next n || is_in right_next n)) (is_in-append merged (least ∷ []) n)
+            ∙ merge_bits (is_in merged n) (is_in left_rest n) (is_in right_rest n) (is_in left_next n) (is_in right_next n) (eqb least n)
             (past least MAX_DOCS left_rest left_next left_from left_past (λ k p. sl k (omega arith)) n)
             (past least MAX_DOCS right_rest right_next right_from right_past (λ k p. sr k (omega arith)) n)
             (has_least n)
-        ∙ m.same n
-    }, omega (arith, end))
+            ∙ m.same n;
+      },
+      omega (arith, end),
+    )
 
 -- at the end of one list, what is left of the other follows
 pub merging_all : {left right merged left_rest right_rest : List ℕ} (v : List ℕ) → Merging left right merged left_rest right_rest → (left_rest ≡ []) ⊎ (right_rest ≡ []) → v ≡ (merged ++ left_rest) ++ right_rest → Rises 0 MAX_DOCS v × ((n : ℕ) → is_in v n ≡ (is_in left n || is_in right n))
-merging_all {left} {right} {merged} {left_rest} {right_rest} v m one_ends e =
-    (subst (Rises 0 MAX_DOCS) (sym e) (elim one_ends [
-      | inl no_left ↦ rw (no_left, append-nil) (Rises-append 0 MAX_DOCS merged right_rest m.rises m.right_rises)
-      | inr no_right ↦ rw (no_right, append-nil) (Rises-append 0 MAX_DOCS merged left_rest m.rises m.left_rises)
-    ]),
-    λ n. ap (λ xs. is_in xs n) (e ∙ append_assoc merged left_rest right_rest) ∙ is_in-append merged (left_rest ++ right_rest) n ∙ ap (λ b. is_in merged n || b) (is_in-append left_rest right_rest n) ∙ m.same n)
+merging_all {left} {right} {merged} {left_rest} {right_rest} v m one_ends e = (
+  subst (Rises 0 MAX_DOCS) (sym e) (elim one_ends [
+    | inl no_left ↦ rw (no_left, append-nil) (Rises-append 0 MAX_DOCS merged right_rest m.rises m.right_rises)
+    | inr no_right ↦ rw (no_right, append-nil) (Rises-append 0 MAX_DOCS merged left_rest m.rises m.left_rises)
+  ]),
+  λ n. ap (λ xs. is_in xs n) (e ∙ append_assoc merged left_rest right_rest) ∙ is_in-append merged (left_rest ++ right_rest) n ∙ ap (λ b. is_in merged n || b) (is_in-append left_rest right_rest n) ∙ m.same n,
+)
 
 pub empty_is : (xs : List ℕ) → None ≡ slice_get xs 0 → xs ≡ []
 empty_is [] e = refl

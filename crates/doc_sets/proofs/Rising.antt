@@ -50,9 +50,9 @@ is_in_filter_head : (b t : Bool) (x n : ℕ) (xs ys : List ℕ) → is_in ys n �
 is_in_filter_head b t x n xs ys e same =
     elim (eqb x n) as (λ q. eqb x n ≡ q → is_in (cond b (x ∷ ys) ys) n ≡ ((q || is_in xs n) && t)) [
       | true ↦ λ q. rw (same q) (elim t as (λ t. (is_in ys n ≡ (is_in xs n && t)) → is_in (cond t (x ∷ ys) ys) n ≡ t) [
-          | true ↦ λ _. rw q
-          | false ↦ λ h. h ∙ and_false (is_in xs n)
-        ] e)
+        | true ↦ λ _. rw q
+        | false ↦ λ h. h ∙ and_false (is_in xs n)
+      ] e)
       | false ↦ λ q. elim b as (λ b. is_in (cond b (x ∷ ys) ys) n ≡ (is_in xs n && t)) [ true ↦ rw q e | false ↦ e ]
     ] refl
   where
@@ -176,17 +176,20 @@ Rises-higher low high higher (x ∷ xs) p r = let above : x < high = r.1 in (r.0
 -- a list that rises by places rises by recursion
 pub Rises-from_increasing : (low high : ℕ) (xs : List ℕ) → IsStrictlyIncreasing xs → All (λ n. n < high) xs → (0 < length xs → low ≤ get_or xs 0 0) → Rises low high xs
 Rises-from_increasing low high [] up below from = tt
-Rises-from_increasing low high (x ∷ xs) up below from =
-    (from (omega arith), All-head (λ n. n < high) x xs below, Rises-from_increasing (suc x) high xs
+Rises-from_increasing low high (x ∷ xs) up below from = (
+  from (omega arith),
+  All-head (λ n. n < high) x xs below,
+  Rises-from_increasing (suc x) high xs
       (λ k p.
-        let P : ℕ → Type 0 = λ j. get_or (x ∷ xs) (suc k) 0 < get_or (x ∷ xs) j 0 in
-        let next : suc k + 1 ≡ suc (k + 1) = omega arith in
-        subst P next (up (suc k) (omega arith)))
+      let P : ℕ → Type 0 = λ j. get_or (x ∷ xs) (suc k) 0 < get_or (x ∷ xs) j 0 in
+      let next : suc k + 1 ≡ suc (k + 1) = omega arith in
+      subst P next (up (suc k) (omega arith)))
       (All-tail (λ n. n < high) x xs below)
       (λ p. let P : ℕ → Type 0 = λ j. x < get_or (x ∷ xs) j 0 in
-        let one : 0 + 1 ≡ suc 0 = omega arith in
-        let next : x < get_or xs 0 0 = subst P one (up 0 (omega arith)) in
-        omega arith))
+      let one : 0 + 1 ≡ suc 0 = omega arith in
+      let next : x < get_or xs 0 0 = subst P one (up 0 (omega arith)) in
+      omega arith),
+)
 
 pub is_in-at : (xs : List ℕ) (i n : ℕ) → i < length xs → get_or xs i 0 ≡ n → is_in xs n ≡ true
 is_in-at [] i n p e = absurd (omega arith)
@@ -232,9 +235,10 @@ is_in-searched xs n (Err i) none =
 -- a walk along the list goes past a first number that is too small
 pub past_first : (least high first : ℕ) (rest others numbers : List ℕ) → rest ≡ first ∷ others → first < least → Rises 0 high rest → ((n : ℕ) → least ≤ n → is_in rest n ≡ is_in numbers n) → Rises 0 high others × ((n : ℕ) → least ≤ n → is_in others n ≡ is_in numbers n)
 past_first least high first rest others numbers e p r same =
-    let cut : Rises 0 high (first ∷ others) = subst (Rises 0 high) e r in
-    (Rises-lower 0 (suc first) high others (omega arith) cut.2,
-     λ n q. sym (ap (λ b. b || is_in others n) (ne_eqb first n (λ h. omega arith))) ∙ sym (ap (λ xs. is_in xs n) e) ∙ same n q)
+    let cut : Rises 0 high (first ∷ others) = subst (Rises 0 high) e r in (
+      Rises-lower 0 (suc first) high others (omega arith) cut.2,
+      λ n q. sym (ap (λ b. b || is_in others n) (ne_eqb first n (λ h. omega arith))) ∙ sym (ap (λ xs. is_in xs n) e) ∙ same n q,
+    )
 
 pub slice_get-is : (xs : List ℕ) (i v : ℕ) → Some v ≡ slice_get xs i → (i < length xs) × (get_or xs i 0 ≡ v)
 slice_get-is [] i v e = absurd (cc)
@@ -269,3 +273,12 @@ last-within low high v xs r last =
 -- one more number of a list
 pub is_in-take_more : (xs : List ℕ) (i n : ℕ) → i < length xs → is_in (take (i + 1) xs) n ≡ (is_in (take i xs) n || eqb (get_or xs i 0) n)
 is_in-take_more xs i n within = ap (λ ys. is_in ys n) (take_more xs i 0 within) ∙ is_in-append (take i xs) (get_or xs i 0 ∷ []) n ∙ ap (λ b. is_in (take i xs) n || b) (or-false (eqb (get_or xs i 0) n))
+
+-- one more number of a list that is tested from its front
+pub tested_more : (high least i : ℕ) (xs : List ℕ) → i < length xs → Rises 0 high (take i xs) → end_of 0 (take i xs) ≡ least → least ≤ get_or xs i 0 → get_or xs i 0 < high → Rises 0 high (take (i + 1) xs) × (end_of 0 (take (i + 1) xs) ≡ get_or xs i 0 + 1)
+tested_more high least i xs within r e p q =
+    let more = take_more xs i 0 within in
+    let one : suc (get_or xs i 0) ≡ get_or xs i 0 + 1 = omega arith in (
+      subst (Rises 0 high) (sym more) (Rises-push 0 high (take i xs) (get_or xs i 0) r (omega arith) q),
+      ap (end_of 0) more ∙ end_of-push 0 (take i xs) (get_or xs i 0) ∙ one,
+    )

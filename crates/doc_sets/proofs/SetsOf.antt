@@ -29,7 +29,7 @@ unfolding members_below
 members_of_below limit xs r =
     let s : Numbers = from_list xs in
     same_rising 0 limit _ xs (Rises-filter-range (contains s) limit) r
-      (λ n. is_in-filter-range (contains s) limit n (λ e. (is_in-within 0 limit xs n r (sym (contains_of xs n) ∙ e)).1) ∙ contains_of xs n)
+    (λ n. is_in-filter-range (contains s) limit n (λ e. (is_in-within 0 limit xs n r (sym (contains_of xs n) ∙ e)).1) ∙ contains_of xs n)
 
 pub members_of : (xs : List ℕ) → IsAscending xs → members (from_list xs) ≡ xs
 members_of xs r = members_of_below MAX_DOCS xs r

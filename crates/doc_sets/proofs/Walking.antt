@@ -31,7 +31,7 @@ walked_more {p} {left} {right} {rest} {kept} {i} high x next more w r within e r
     record {
       kept_is = pushed ∙ ap (λ xs. xs ++ cond (p x) (x ∷ []) []) w.kept_is ∙ ap (λ y. filter p (take i left) ++ cond (p y) (y ∷ []) []) e ∙ sym (filter_more p left i 0 within);
       rising = rises;
-      same = λ n q. same n (omega arith)
+      same = λ n q. same n (omega arith);
     }
 
 -- what is left of a list after a push that a test decides

@@ -47,7 +47,11 @@ fn check(rt: &impl Abort, set: &DocSet, want: &[DocNo], what: &str) {
         assert!(rt; set.has(number), "{number} in {what}");
         if number < MAX_DOCS {
             let wanted = want.binary_search(&(number + 1)).is_ok();
-            assert_eq!(rt; set.has(number + 1), wanted, "what follows {number} in {what}");
+            assert_eq!(rt;
+                set.has(number + 1),
+                wanted,
+                "what follows {number} in {what}"
+            );
         }
     }
     assert!(rt; !set.has(MAX_DOCS) && !set.has(u32::MAX), "beyond {what}");
@@ -85,7 +89,12 @@ fn compare(rt: &impl Abort, alloc: Global, left: &[DocNo], right: &[DocNo]) -> R
     }
     check(rt, &first.and(alloc, &second)?, &both, "what both have");
     check(rt, &first.or(alloc, &second)?, &either, "what either has");
-    check(rt, &first.minus(alloc, &second)?, &lacking, "what the right one lacks");
+    check(
+        rt,
+        &first.minus(alloc, &second)?,
+        &lacking,
+        "what the right one lacks",
+    );
     Ok(())
 }
 
@@ -113,7 +122,13 @@ fn written_sets(rt: HostRuntime) -> Result<(), Fail> {
         (&[], &[], &[], &[], &[]),
         (&[0, 262_143], &[], &[], &[0, 262_143], &[0, 262_143]),
         (&[0, 262_143], &[262_143], &[262_143], &[0, 262_143], &[0]),
-        (&[0, 1, 2, 3, 63], &[63, 64, 128], &[63], &[0, 1, 2, 3, 63, 64, 128], &[0, 1, 2, 3]),
+        (
+            &[0, 1, 2, 3, 63],
+            &[63, 64, 128],
+            &[63],
+            &[0, 1, 2, 3, 63, 64, 128],
+            &[0, 1, 2, 3],
+        ),
     ];
     for (left, right, both, either, lacking) in rows {
         let first = set_of(&rt, alloc, left)?;
@@ -121,11 +136,34 @@ fn written_sets(rt: HostRuntime) -> Result<(), Fail> {
         check(&rt, &first, left, "the left set");
         check(&rt, &first.and(alloc, &second)?, both, "what both have");
         check(&rt, &first.or(alloc, &second)?, either, "what either has");
-        check(&rt, &first.minus(alloc, &second)?, lacking, "what the right one lacks");
+        check(
+            &rt,
+            &first.minus(alloc, &second)?,
+            lacking,
+            "what the right one lacks",
+        );
     }
     check(&rt, &DocSet::new(alloc), &[], "the new set");
     let list = DocList::new([7, 2, 7].to_vec(alloc)?);
     assert_eq!(rt; list.get(), [7, 2, 7].as_slice());
+    Ok(())
+}
+
+#[test]
+fn full_set(rt: HostRuntime) -> Result<(), Fail> {
+    let alloc = rt.alloc();
+    let full = set_of(&rt, alloc, &drawn(alloc, 1, MAX_DOCS, 1000)?)?;
+    let ends = set_of(&rt, alloc, &[0, 262_143])?;
+    assert_eq!(rt; full.len(), 262_144);
+    assert!(rt; full.has(0) && full.has(262_143) && !full.has(262_144));
+    check(&rt, &full.and(alloc, &ends)?, &[0, 262_143], "the ends");
+    check(&rt, &ends.minus(alloc, &full)?, &[], "nothing");
+    check(&rt, &full.minus(alloc, &full)?, &[], "nothing");
+    assert_eq!(rt; full.or(alloc, &ends)?.len(), 262_144);
+    let inner = full.minus(alloc, &ends)?;
+    assert_eq!(rt; inner.len(), 262_142);
+    assert!(rt; !inner.has(0) && inner.has(1) && inner.has(262_142) && !inner.has(262_143));
+    assert_eq!(rt; inner.iter().next(), Some(1));
     Ok(())
 }
 
@@ -141,21 +179,20 @@ fn drawn_sets(rt: HostRuntime) -> Result<(), Fail> {
         (70, 20, 130, 1000),
         (1000, 30, 1000, 33),
         (5000, 2, 5000, 3),
-        (5000, 500, 9000, 3),
-        (9000, 3, 5000, 500),
+        (2000, 500, 9000, 3),
+        (9000, 3, 2000, 500),
         (8000, 31, 8000, 32),
-        (8000, 900, 9000, 100),
-        (8000, 1000, 8000, 1000),
-        (262_144, 1, 200, 1000),
-        (262_144, 1000, 20_000, 4),
-        (20_000, 4, 262_144, 1000),
+        (3000, 900, 4000, 100),
+        (4000, 1000, 4000, 1000),
+        (20_000, 4, 200, 1000),
+        (4000, 1000, 0, 0),
     ];
     let mut seed = 1;
     for (left_limit, left_part, right_limit, right_part) in rows {
         let left = drawn(alloc, seed, left_limit, left_part)?;
-        let right = drawn(alloc, seed + 1, right_limit, right_part)?;
+        let right = drawn(alloc, seed.wrapping_add(1), right_limit, right_part)?;
         compare(&rt, alloc, &left, &right)?;
-        seed += 2;
+        seed = seed.wrapping_add(2);
     }
     Ok(())
 }

@@ -17,5 +17,5 @@ loop-number-preserved c =
     let same = walked_found MAX_DOCS x next c.loop-number.invariant c.requires.left within refl c.from_number-rest.ensures.same in
     let found : c.starts_with.result ≡ is_in right x = c.starts_with.ensures ∙ same x (omega arith) in
     let pushed : c.if-starts_with.kept.items ≡ kept ++ cond (is_in right x) (x ∷ []) [] =
-      elim c.if-starts_with.branch [ then-starts_with+in_ok-push w ↦ pushed_if _ x kept _ (sym found ∙ w.if-starts_with.true) (ap (λ v. v.items) w.kept-is ∙ w.in_ok-push.ensures.items) | else-starts_with w ↦ pushed_not _ x kept _ (sym found ∙ w.if-starts_with.false) (ap (λ v. v.items) w.kept-is) ] in
+    elim c.if-starts_with.branch [ then-starts_with+in_ok-push w ↦ pushed_if _ x kept _ (sym found ∙ w.if-starts_with.true) (ap (λ v. v.items) w.kept-is ∙ w.in_ok-push.ensures.items) | else-starts_with w ↦ pushed_not _ x kept _ (sym found ∙ w.if-starts_with.false) (ap (λ v. v.items) w.kept-is) ] in
     walked_more MAX_DOCS x next _ c.loop-number.invariant c.requires.left within refl (Rises-lower 0 x MAX_DOCS next (omega arith) c.from_number-rest.ensures.rises) same pushed
