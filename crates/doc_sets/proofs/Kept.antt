@@ -1,6 +1,6 @@
 -- What the form of a set tells of the set.
-use Rattle.std.proofs.Common.{◌≡◌, ℕ, Bool, List, Vec, length, ◌≤◌, refl, sym, ap, subst, ◌∙◌}
-use Rattle.std.specs.FinSet.{contains, len, from_list}
+use Rattle.std.proofs.Common.{◌≡◌, ℕ, Bool, List, Vec, length, refl, sym, ap, subst, ◌∙◌}
+use Rattle.std.specs.FinSet.{contains, len}
 use Rattle.doc_sets.specs.Sets.{Numbers, members, AreDocuments, IsAscending, is_in}
 use Rattle.doc_sets.specs.Forms.{numbers_in, set_of, IsForm}
 use Rattle.doc_sets.specs.declared.doc_set.Form.{Form}
@@ -46,9 +46,6 @@ row_members form s words seen r h view is same e = e ∙ ap numbers_of same ∙ 
 -- what a form that is lent tells
 pub listed_rises : (form : Form) (numbers : Vec ℕ Global) (seen : List ℕ) → IsForm form → form ≡ Listed numbers → seen ≡ numbers.items → IsAscending seen
 listed_rises form numbers seen h is same = subst IsAscending (sym same) (subst IsForm is h)
-
-pub row_is_few : (form : Form) (words : Vec ℕ Global) (seen : List ℕ) → IsForm form → form ≡ Bits words → seen ≡ words.items → length seen ≤ 4096
-row_is_few form words seen h is same = subst (λ ws. length ws ≤ 4096) (sym same) (subst IsForm is h)
 
 pub listed_holds : (form : Form) (s : Numbers) (numbers : Vec ℕ Global) (seen : List ℕ) → set_of form ≡ s → form ≡ Listed numbers → seen ≡ numbers.items → (n : ℕ) → contains s n ≡ is_in seen n
 listed_holds form s numbers seen view is same n = sym (listed_answer form s numbers seen n _ view is same refl)

@@ -1,13 +1,13 @@
 -- What is left of a walk along a row.
-use Rattle.std.proofs.Common.{◌≡◌, ◌≢◌, ℕ, zero, suc, ◌+◌, ◌-◌, ◌*◌, ◌/◌, ◌%◌, ◌^◌, ◌<◌, ◌≤◌, Bool, true, false, ◌||◌, List, [], ◌∷◌, map, length, get_or, nat_eq, bit_and, w64, inl, inr, ◌⊎◌, refl, sym, ap, subst, ◌∙◌, arith}
+use Rattle.std.proofs.Common.{◌≡◌, ℕ, suc, ◌+◌, ◌-◌, ◌*◌, ◌/◌, ◌%◌, ◌^◌, ◌<◌, ◌≤◌, true, ◌||◌, List, [], ◌∷◌, map, length, get_or, nat_eq, bit_and, w64, inl, inr, refl, sym, ap, subst, ◌∙◌, arith}
 use Rattle.std.specs.Int.{bit_at, trailing_zeros}
 use Rattle.std.proofs.lemmas.Nat.Bits.{bit_at-trailing_zeros, bit_at-zero}
-use Rattle.std.proofs.lemmas.Bool.{cases_lt, cases_order, cases_eq, eq-eqb, ne_eqb, eqb-true, false≢true, both_ways}
+use Rattle.std.proofs.lemmas.Bool.{cases_lt, cases_order, cases_eq, eq-eqb, ne_eqb, both_ways}
 use Rattle.doc_sets.specs.Sets.{is_in, Rises}
 use Rattle.doc_sets.specs.Rows.{has_bit, numbers_of}
 use Rattle.doc_sets.specs.Left.{numbers_left}
 use Rattle.doc_sets.proofs.Bits.{has_bit-is, has_bit-past, is_in-numbers_of, Rises-numbers_of, numbers_of-same}
-use Rattle.doc_sets.proofs.Rising.{Rises-lower, Rises-higher, is_in-below}
+use Rattle.doc_sets.proofs.Rising.{Rises-lower, is_in-below}
 use Rattle.doc_sets.proofs.Lowest.{LowestOne, cleared_low, cleared_high}
 
 Rises-map : (k low high : ℕ) (xs : List ℕ) → Rises low high xs → Rises (k + low) (k + high) (map (λ n. k + n) xs)

@@ -1,5 +1,5 @@
 -- A walk along two ascending lists, which takes the numbers of both.
-use Rattle.std.proofs.Common.{◌≡◌, ℕ, suc, ◌+◌, ◌-◌, ◌<◌, ◌≤◌, min, Bool, true, false, cond, not, ◌&&◌, ◌||◌, eqb, List, [], ◌∷◌, ◌++◌, length, slice_get, Some, None, refl, sym, ap, subst, ◌∙◌, inl, inr, ◌⊎◌, append-nil, append_assoc, arith}
+use Rattle.std.proofs.Common.{◌≡◌, ℕ, suc, ◌+◌, ◌-◌, ◌<◌, ◌≤◌, min, Bool, true, false, not, ◌&&◌, ◌||◌, eqb, List, [], ◌∷◌, ◌++◌, slice_get, Some, None, refl, sym, ap, subst, ◌∙◌, inl, inr, ◌⊎◌, append-nil, append_assoc, arith}
 use Rattle.std.proofs.lemmas.Bool.{eq-eqb, ne_eqb, eqb-true, cases_order, cases_lt, or_right, or_left}
 use Rattle.doc_sets.specs.Sets.{is_in, Rises}
 use Rattle.doc_sets.specs.declared.TheConstants.{MAX_DOCS}
@@ -11,9 +11,6 @@ pub record Merging (left right merged left_rest right_rest : List ℕ) : Type 0 
   pub left_rises : Rises (end_of 0 merged) MAX_DOCS left_rest
   pub right_rises : Rises (end_of 0 merged) MAX_DOCS right_rest
   pub same : (n : ℕ) → (is_in merged n || (is_in left_rest n || is_in right_rest n)) ≡ (is_in left n || is_in right n)
-
-pub merging_none : (left right : List ℕ) → Rises 0 MAX_DOCS left → Rises 0 MAX_DOCS right → Merging left right [] left right
-merging_none left right r s = record { rises = tt; left_rises = r; right_rises = s; same = λ n. refl }
 
 -- the first of a list
 pub first_is : (low high x : ℕ) (xs : List ℕ) → Rises low high xs → Some x ≡ slice_get xs 0 → (low ≤ x) × (x < high) × Rises x high xs × (is_in xs x ≡ true)

@@ -1,5 +1,5 @@
 -- Facts on lists that strictly ascend, and on what they have.
-use Rattle.std.proofs.Common.{◌≡◌, ℕ, zero, suc, ◌+◌, ◌-◌, ◌<◌, ◌≤◌, Bool, true, false, cond, not, ◌&&◌, ◌||◌, eqb, List, [], ◌∷◌, ◌++◌, length, get_or, take, slice_get, filter, Result, Ok, Err, is_ok, MatchResult, All, inl, inr, ◌⊎◌, Some, refl, sym, ap, subst, ◌∙◌, arith, add-one}
+use Rattle.std.proofs.Common.{◌≡◌, ℕ, zero, suc, ◌+◌, ◌-◌, ◌<◌, ◌≤◌, Bool, true, false, cond, ◌&&◌, ◌||◌, eqb, List, [], ◌∷◌, ◌++◌, length, get_or, take, slice_get, filter, Result, Ok, Err, is_ok, MatchResult, All, inl, inr, ◌⊎◌, Some, refl, sym, ap, subst, ◌∙◌, arith}
 use Rattle.std.specs.List.{range_with_len}
 use Rattle.std.specs.List.Sorted.{IsStrictlyIncreasing}
 use Rattle.std.proofs.lemmas.Bool.{eq-eqb, ne_eqb, eqb-true, cases_order, cases_lt, false≢true, or_right}
@@ -269,10 +269,6 @@ last-within low high v xs r last =
     let end = slice_get-is xs (length xs - 1) v last in
     let within = Rises-at low high (length xs - 1) xs r end.0 in
     omega arith
-
--- one more number of a list
-pub is_in-take_more : (xs : List ℕ) (i n : ℕ) → i < length xs → is_in (take (i + 1) xs) n ≡ (is_in (take i xs) n || eqb (get_or xs i 0) n)
-is_in-take_more xs i n within = ap (λ ys. is_in ys n) (take_more xs i 0 within) ∙ is_in-append (take i xs) (get_or xs i 0 ∷ []) n ∙ ap (λ b. is_in (take i xs) n || b) (or-false (eqb (get_or xs i 0) n))
 
 -- one more number of a list that is tested from its front
 pub tested_more : (high least i : ℕ) (xs : List ℕ) → i < length xs → Rises 0 high (take i xs) → end_of 0 (take i xs) ≡ least → least ≤ get_or xs i 0 → get_or xs i 0 < high → Rises 0 high (take (i + 1) xs) × (end_of 0 (take (i + 1) xs) ≡ get_or xs i 0 + 1)

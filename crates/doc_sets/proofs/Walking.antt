@@ -1,5 +1,5 @@
 -- A walk along two ascending lists, which keeps some numbers of the left one.
-use Rattle.std.proofs.Common.{◌≡◌, ℕ, zero, suc, ◌+◌, ◌<◌, ◌≤◌, Bool, true, false, cond, not, List, [], ◌∷◌, ◌++◌, length, get_or, take, filter, refl, sym, ap, ◌∙◌, add-one, append-nil, arith}
+use Rattle.std.proofs.Common.{◌≡◌, ℕ, zero, suc, ◌+◌, ◌<◌, ◌≤◌, Bool, true, false, cond, List, [], ◌∷◌, ◌++◌, length, get_or, take, filter, refl, sym, ap, ◌∙◌, add-one, append-nil, arith}
 use Rattle.std.proofs.lemmas.List.Elements.{filter_more}
 use Rattle.doc_sets.specs.Sets.{is_in, Rises, IsAscending}
 use Rattle.doc_sets.proofs.Rising.{end_of}
@@ -14,9 +14,6 @@ end_of-take : (low high i : ℕ) (xs : List ℕ) → Rises low high xs → i < l
 end_of-take low high i [] r p = absurd (omega arith)
 end_of-take low high zero (x ∷ xs) r p = (r.0, refl)
 end_of-take low high (suc i) (x ∷ xs) r p = end_of-take (suc x) high i xs r.2 (omega arith)
-
-pub walked_none : (p : ℕ → Bool) (left right : List ℕ) → IsAscending right → Walked p left right right [] 0
-walked_none p left right r = record { kept_is = refl; rising = r; same = λ n q. refl }
 
 -- the next number stands in the right list where it stands in what is left of it
 pub walked_found : {p : ℕ → Bool} {left right rest kept : List ℕ} {i : ℕ} (high x : ℕ) (next : List ℕ) → Walked p left right rest kept i → Rises 0 high left → i < length left → x ≡ get_or left i 0 → ((n : ℕ) → x ≤ n → is_in next n ≡ is_in rest n) → (n : ℕ) → x ≤ n → is_in next n ≡ is_in right n

@@ -1,5 +1,5 @@
 -- The two forms of a set.
-use Rattle.std.specs.Prelude.{◌≡◌, ℕ, ◌≤◌, List, length}
+use Rattle.std.specs.Prelude.{ℕ, ◌≤◌, List, length}
 use Rattle.std.specs.FinSet.{from_list}
 use Rattle.doc_sets.specs.Sets.{Numbers, IsAscending}
 use Rattle.doc_sets.specs.Rows.{numbers_of}

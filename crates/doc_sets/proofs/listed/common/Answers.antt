@@ -1,5 +1,5 @@
-use Rattle.std.proofs.Common.{◌≡◌, ◌<◌, cond, [], ◌∷◌, ◌++◌, length, get_or, refl, sym, ap, ◌∙◌, arith, rules}
-use Rattle.doc_sets.specs.Sets.{is_in, IsAscending}
+use Rattle.std.proofs.Common.{◌≡◌, ◌<◌, cond, [], ◌∷◌, ◌++◌, length, get_or, refl, sym, ap, ◌∙◌, arith}
+use Rattle.doc_sets.specs.Sets.{is_in}
 use Rattle.doc_sets.specs.declared.TheConstants.{MAX_DOCS}
 use Rattle.doc_sets.proofs.Rising.{Rises-lower}
 use Rattle.doc_sets.proofs.Walking.{walked_found, walked_more, pushed_if, pushed_not}

@@ -1,4 +1,3 @@
-use Rattle.std.proofs.Common.{arith}
 use Rattle.doc_sets.specs.declared.TheConstants.{MAX_DOCS}
 use Rattle.doc_sets.proofs.Rising.{past_first}
 use Rattle.doc_sets.proofs.listed.from_number.Goals as goal

@@ -1,4 +1,4 @@
-use Rattle.std.proofs.Common.{length, take, subst, arith}
+use Rattle.std.proofs.Common.{subst, arith}
 use Rattle.std.proofs.lemmas.List.{take_all}
 use Rattle.doc_sets.specs.Sets.{IsAscending}
 use Rattle.doc_sets.specs.declared.TheConstants.{MAX_DOCS}
