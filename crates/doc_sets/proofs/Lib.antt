@@ -1,0 +1,13 @@
+pub mod BitChanges
+pub mod Bits
+pub mod Counting
+pub mod Empty
+pub mod Kept
+pub mod Lefts
+pub mod Lowest
+pub mod Members
+pub mod Merging
+pub mod Rising
+pub mod SetsOf
+pub mod Walking
+pub mod WordByWord

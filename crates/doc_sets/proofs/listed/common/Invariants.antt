@@ -1,0 +1,6 @@
+use Rattle.doc_sets.specs.Sets.{is_in}
+use Rattle.doc_sets.proofs.Walking.{Walked}
+use Rattle.doc_sets.proofs.listed.common.Given as goal
+
+abbrev pub invariant-loop-number : goal.invariant-loop-number
+invariant-loop-number l = Walked (is_in l.right) l.left l.right l.rest l.kept.items l.number-index

@@ -1,0 +1,198 @@
+ghost use Rattle.std.specs.Prelude.{◌<◌, IsTrue, All};
+ghost use Rattle.std.specs.List.Sorted.{IsStrictlyIncreasing};
+ghost use Rattle.doc_sets.specs.declared.TheConstants.{MAX_DOCS};
+
+use crate::{DocList, DocNo, DocSet, MAX_DOCS, NoMemory};
+use std::alloc::{AllocError, Global};
+use std::collections::BTreeSet;
+use std::process::Abort;
+use std::test::Fail;
+
+/// Whether the numbers ascend strictly and are numbers of documents.
+fn ascends(numbers: &[DocNo]) -> bool
+    ensures rising { IsTrue result → IsStrictlyIncreasing numbers.now }
+    ensures documents { IsTrue result → All (λ n. n < MAX_DOCS) numbers.now }
+{
+    let mut least = 0;
+    for &number in numbers {
+        if number < least || number >= MAX_DOCS {
+            return false;
+        }
+        least = number + 1;
+    }
+    true
+}
+
+fn set_of(rt: &impl Abort, alloc: Global, numbers: &[DocNo]) -> Result<DocSet, NoMemory> {
+    let fit = ascends(numbers);
+    assert!(rt; fit);
+    DocSet::from_sorted(alloc, numbers)
+}
+
+/// Each answer of the set is that of the ascending list.
+fn check(rt: &impl Abort, set: &DocSet, want: &[DocNo], what: &str) {
+    assert_eq!(rt; set.len() as usize, want.len(), "the length of {what}");
+    let mut rest = want;
+    for number in set.iter() {
+        match rest.split_first() {
+            Some((&next, others)) => {
+                assert_eq!(rt; number, next, "a member of {what}");
+                rest = others;
+            }
+            None => panic!(rt; "too many members of {what}"),
+        }
+    }
+    assert!(rt; rest.is_empty(), "too few members of {what}");
+    for &number in want {
+        assert!(rt; set.has(number), "{number} in {what}");
+        if number < MAX_DOCS {
+            let wanted = want.binary_search(&(number + 1)).is_ok();
+            assert_eq!(rt;
+                set.has(number + 1),
+                wanted,
+                "what follows {number} in {what}"
+            );
+        }
+    }
+    assert!(rt; !set.has(MAX_DOCS) && !set.has(u32::MAX), "beyond {what}");
+}
+
+/// The three operations answer as those of a search tree.
+fn compare(rt: &impl Abort, alloc: Global, left: &[DocNo], right: &[DocNo]) -> Result<(), Fail> {
+    let first = set_of(rt, alloc, left)?;
+    let second = set_of(rt, alloc, right)?;
+    check(rt, &first, left, "the left set");
+    check(rt, &second, right, "the right set");
+    let mut first_tree = BTreeSet::new(alloc);
+    for &number in left {
+        first_tree.insert(number)?;
+    }
+    let mut second_tree = BTreeSet::new(alloc);
+    for &number in right {
+        second_tree.insert(number)?;
+    }
+    let mut both = Vec::new(alloc);
+    let mut lacking = Vec::new(alloc);
+    for number in &first_tree {
+        if second_tree.contains(number) {
+            both.push(*number)?;
+        } else {
+            lacking.push(*number)?;
+        }
+    }
+    for &number in right {
+        first_tree.insert(number)?;
+    }
+    let mut either = Vec::new(alloc);
+    for number in &first_tree {
+        either.push(*number)?;
+    }
+    check(rt, &first.and(alloc, &second)?, &both, "what both have");
+    check(rt, &first.or(alloc, &second)?, &either, "what either has");
+    check(
+        rt,
+        &first.minus(alloc, &second)?,
+        &lacking,
+        "what the right one lacks",
+    );
+    Ok(())
+}
+
+/// About `permille` of each thousand numbers below `limit`, by a linear congruential generator.
+fn drawn(alloc: Global, seed: u64, limit: u32, permille: u64) -> Result<Vec<DocNo>, AllocError> {
+    let mut state = seed;
+    let mut numbers = Vec::new(alloc);
+    for number in 0..limit {
+        state = state
+            .wrapping_mul(6_364_136_223_846_793_005)
+            .wrapping_add(1_442_695_040_888_963_407);
+        if (state >> 33) % 1000 < permille {
+            numbers.push(number)?;
+        }
+    }
+    Ok(numbers)
+}
+
+#[test]
+fn written_sets(rt: HostRuntime) -> Result<(), Fail> {
+    let alloc = rt.alloc();
+    let rows: [(&[DocNo], &[DocNo], &[DocNo], &[DocNo], &[DocNo]); 6] = [
+        (&[1, 3, 5], &[3, 4, 5], &[3, 5], &[1, 3, 4, 5], &[1]),
+        (&[3, 4, 5], &[1, 3, 5], &[3, 5], &[1, 3, 4, 5], &[4]),
+        (&[], &[], &[], &[], &[]),
+        (&[0, 262_143], &[], &[], &[0, 262_143], &[0, 262_143]),
+        (&[0, 262_143], &[262_143], &[262_143], &[0, 262_143], &[0]),
+        (
+            &[0, 1, 2, 3, 63],
+            &[63, 64, 128],
+            &[63],
+            &[0, 1, 2, 3, 63, 64, 128],
+            &[0, 1, 2, 3],
+        ),
+    ];
+    for (left, right, both, either, lacking) in rows {
+        let first = set_of(&rt, alloc, left)?;
+        let second = set_of(&rt, alloc, right)?;
+        check(&rt, &first, left, "the left set");
+        check(&rt, &first.and(alloc, &second)?, both, "what both have");
+        check(&rt, &first.or(alloc, &second)?, either, "what either has");
+        check(
+            &rt,
+            &first.minus(alloc, &second)?,
+            lacking,
+            "what the right one lacks",
+        );
+    }
+    check(&rt, &DocSet::new(alloc), &[], "the new set");
+    let list = DocList::new([7, 2, 7].to_vec(alloc)?);
+    assert_eq!(rt; list.get(), [7, 2, 7].as_slice());
+    Ok(())
+}
+
+#[test]
+fn full_set(rt: HostRuntime) -> Result<(), Fail> {
+    let alloc = rt.alloc();
+    let full = set_of(&rt, alloc, &drawn(alloc, 1, MAX_DOCS, 1000)?)?;
+    let ends = set_of(&rt, alloc, &[0, 262_143])?;
+    assert_eq!(rt; full.len(), 262_144);
+    assert!(rt; full.has(0) && full.has(262_143) && !full.has(262_144));
+    check(&rt, &full.and(alloc, &ends)?, &[0, 262_143], "the ends");
+    check(&rt, &ends.minus(alloc, &full)?, &[], "nothing");
+    check(&rt, &full.minus(alloc, &full)?, &[], "nothing");
+    assert_eq!(rt; full.or(alloc, &ends)?.len(), 262_144);
+    let inner = full.minus(alloc, &ends)?;
+    assert_eq!(rt; inner.len(), 262_142);
+    assert!(rt; !inner.has(0) && inner.has(1) && inner.has(262_142) && !inner.has(262_143));
+    assert_eq!(rt; inner.iter().next(), Some(1));
+    Ok(())
+}
+
+#[test]
+fn drawn_sets(rt: HostRuntime) -> Result<(), Fail> {
+    let alloc = rt.alloc();
+    // How far the sets reach, and how many of a thousand numbers each has: none, all, lists and bits.
+    let rows = [
+        (2, 1000, 2, 1000),
+        (3, 1000, 3, 1000),
+        (3, 1000, 2, 1000),
+        (64, 1000, 129, 1000),
+        (70, 20, 130, 1000),
+        (1000, 30, 1000, 33),
+        (5000, 2, 5000, 3),
+        (2000, 500, 9000, 3),
+        (9000, 3, 2000, 500),
+        (8000, 31, 8000, 32),
+        (3000, 900, 4000, 100),
+        (4000, 1000, 4000, 1000),
+        (20_000, 4, 200, 1000),
+        (4000, 1000, 0, 0),
+    ];
+    let mut seed = 1;
+    for (left_limit, left_part, right_limit, right_part) in rows {
+        let left = drawn(alloc, seed, left_limit, left_part)?;
+        let right = drawn(alloc, seed.wrapping_add(1), right_limit, right_part)?;
+        compare(&rt, alloc, &left, &right)?;
+        seed = seed.wrapping_add(2);
+    }
+    Ok(())
+}
