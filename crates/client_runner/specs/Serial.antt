@@ -1,13 +1,12 @@
 -- The serial run: each line of the script in turn.
-use Rattle.std.specs.Prelude.{ℕ, ◌+◌, List, [], ◌∷◌, ◌++◌, length, fold, Bool, true, Option, Some, None, Result, Ok, Err, codes}
+use Rattle.std.specs.Prelude.{ℕ, ◌+◌, List, [], ◌∷◌, ◌++◌, fold, Bool, true, Option, Some, None, Result, Ok, Err}
 use Rattle.field_schema.specs.Schema.{Fields}
 use Rattle.doc_model.specs.Document.{Document}
-use Rattle.search_model.specs.Live.{Change, added, after}
-use Rattle.search_model.specs.Answer.{Asked, Answer, answer}
+use Rattle.search_model.specs.Live.{Change, after}
+use Rattle.search_model.specs.Answer.{Asked, answer}
 use Rattle.search_model.specs.Reply.{Outcome, found, accepted, refused, reply_text, code_of, found_of, docs_of}
 use Rattle.script_form.specs.declared.config.Config.{Config}
 use Rattle.script_form.specs.declared.script.Line.{Line}
-use Rattle.script_form.specs.declared.script.What.{What}
 use Rattle.run_laws.specs.Rows.{Verb, add, delete, query, commit, RequestRow, SearcherRow, Output}
 use Rattle.run_laws.specs.Requests.{Request, request_as}
 use Rattle.run_laws.specs.Reading.{update_of, commit_of, query_of, CommitForm}

@@ -1,5 +1,5 @@
 -- What matching comes to at each kind of query.
-use Rattle.std.proofs.Common.{◌≡◌, ℕ, List, [], ◌∷◌, map, Bool, true, false, not, ◌&&◌, ◌||◌, refl, ap, sym, ◌∙◌}
+use Rattle.std.proofs.Common.{◌≡◌, ℕ, List, [], ◌∷◌, map, Bool, true, not, ◌&&◌, ◌||◌, refl, ap, ◌∙◌}
 use Rattle.std.specs.List.{list_all, list_any}
 use Rattle.std.proofs.lemmas.List.Folds.{list_all-map}
 use Rattle.field_schema.specs.declared.key.Key.{Key}
@@ -9,7 +9,7 @@ use Rattle.query_tree.specs.declared.query.Query.{Query, Query-F, fold_out-Query
 use Rattle.query_tree.specs.declared.query.Query.TheFolds.{map-Query}
 use Rattle.query_tree.specs.declared.query.Query.TheOpen as node
 use Rattle.query_tree.specs.declared.query.Query.TheViews as query
-use Rattle.query_tree.specs.Keys.{values_in, keys_in}
+use Rattle.query_tree.specs.Keys.{values_in}
 use Rattle.query_tree.specs.Matches.{has_words, has_prefix, is_above, is_below, has_key, is_empty, boolean, says, matches, is_negative, top_says, top}
 
 -- ---- lists of answers

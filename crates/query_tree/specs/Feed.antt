@@ -1,5 +1,5 @@
 -- What sorts, ends and queries feed a hasher.
-use Rattle.std.specs.Prelude.{ℕ, List, ◌++◌}
+use Rattle.std.specs.Prelude.{List, ◌++◌}
 use Rattle.std.specs.Hash.{HashWrites}
 use Rattle.std.specs.Hash as fed
 use Rattle.field_schema.specs.declared.key.Key.{Key}

@@ -4,3 +4,4 @@ pub mod MatchLaws
 pub mod Order
 pub mod OrderLaws
 pub mod Feed
+pub mod QueryLaws

@@ -1,13 +1,12 @@
 -- What matching says of small documents and queries.
-use Rattle.std.specs.Prelude.{◌≡◌, ℕ, List, [], ◌∷◌, Bool, true, false, not, ◌||◌, codes}
-use Rattle.std.specs.List.{list_all, list_any}
+use Rattle.std.specs.Prelude.{◌≡◌, ℕ, List, [], ◌∷◌, Bool, true, false, codes}
+use Rattle.std.specs.List.{list_any}
 use Rattle.field_schema.specs.declared.key.Key.{Key}
 use Rattle.field_schema.specs.declared.key.Key.TheVariants as key
-use Rattle.query_tree.specs.declared.query.End.{End}
 use Rattle.query_tree.specs.declared.query.End.TheVariants as end
 use Rattle.query_tree.specs.declared.query.Query.{Query}
 use Rattle.query_tree.specs.declared.query.Query.TheViews as query
-use Rattle.query_tree.specs.Keys.{values_in, keys_in}
+use Rattle.query_tree.specs.Keys.{keys_in}
 use Rattle.query_tree.specs.Matches.{matches, top}
 
 -- a query with optional parts alone

@@ -1,8 +1,7 @@
 -- When a document matches a query. A document is the list of each field's values.
-use Rattle.std.specs.Prelude.{ℕ, List, [], ◌∷◌, length, Bool, true, false, not, ◌&&◌, ◌||◌, ◌==◌, nat_lt, nat_eq, map}
-use Rattle.std.specs.List.{list_all, list_any, starts_with}
-use Rattle.std.specs.Ordering.{is_lt, is_le, is_eq}
-use Rattle.std.specs.Cmp.Lexicographic.{pointwise}
+use Rattle.std.specs.Prelude.{ℕ, List, [], ◌∷◌, Bool, true, false, not, ◌&&◌, ◌||◌, ◌==◌}
+use Rattle.std.specs.List.{list_all, list_any}
+use Rattle.std.specs.Ordering.{is_lt, is_eq}
 use Rattle.field_schema.specs.declared.key.Key.{Key}
 use Rattle.field_schema.specs.declared.key.Key.TheVariants as key
 use Rattle.field_schema.specs.Tokens.{tokens}

@@ -5,41 +5,35 @@ ghost use Rattle.query_tree.specs.MatchLaws.{AllMatches, NestedNegativeAddsNothi
 /// `*:*` matches each document.
 pub fn all()
     ensures { AllMatches }
-{
-}
+{}
 
 /// `-cat:x` matches the documents without `cat` where it is the whole query, and adds none to another query's.
 pub fn negative()
     ensures top { TopNegativeMatches }
     ensures nested { NestedNegativeMatchesNothing }
     ensures beside { NestedNegativeAddsNothing }
-{
-}
+{}
 
 /// A phrase matches within one text of a field, and not from one text into the next.
 pub fn phrase()
     ensures within { PhraseWithinText }
     ensures across { PhraseAcrossTexts }
-{
-}
+{}
 
 /// A phrase of no words and a Boolean query of no parts match nothing.
 pub fn empty()
     ensures phrase { EmptyPhraseMatchesNothing }
     ensures boolean { EmptyBoolMatchesNothing }
-{
-}
+{}
 
 /// `{k TO k}` matches nothing, and `[k TO k]` what `k` matches.
 pub fn point_range()
     ensures excluded { EmptyRangeMatchesNothing }
     ensures included { PointRangeIsTerm }
-{
-}
+{}
 
 /// The prefix of no characters matches the documents with a string or a token in the field, and none by its
 /// numbers.
 pub fn empty_prefix()
     ensures { EmptyPrefixMatchesTexts }
-{
-}
+{}

@@ -1,6 +1,7 @@
 -- The reply to a request, as JSON and as text.
-use Rattle.std.specs.Prelude.{ℕ, List, [], ◌∷◌, length, codes, true}
-use Rattle.serde_json.specs.Data.{Data, number, unsigned, boolean, string, array, object, Items, no_items, item, Members, no_members, member}
+use Rattle.std.specs.Prelude.{ℕ, List, [], ◌∷◌, length, map, codes, true}
+use Rattle.serde_json.specs.Data.{Data, number, unsigned, boolean, string, array, object, Items, Members, no_members, member}
+use Rattle.serde_json.specs.View.{items_of}
 use Rattle.serde_json.specs.Written.{compact_text}
 use Rattle.field_schema.specs.declared.field.FieldList.{FieldList}
 use Rattle.field_schema.specs.Schema.{Fields}
@@ -19,25 +20,28 @@ pub data Outcome : Type 0 where
 abbrev pub count : ℕ → Data
 count n = number (unsigned n)
 
-abbrev pub docs_data : Fields → FieldList → List Document → Items
-docs_data s fields [] = no_items
-docs_data s fields (d ∷ ds) = item (doc_data s fields d) (docs_data s fields ds)
+-- documents as a list
+abbrev pub docs_items : Fields → FieldList → List Document → Data
+docs_items s fields docs = array (items_of (map (doc_data s fields) docs))
 
 abbrev pub counts_data : List ℕ → Items
-counts_data [] = no_items
-counts_data (n ∷ ns) = item (count n) (counts_data ns)
+counts_data ns = items_of (map count ns)
 
--- the header with the status, behind the members that come before it by name
+-- the last member of a reply: the header with the status
 abbrev pub header : ℕ → Members
 header status = member (codes "responseHeader") (object (member (codes "status") (count status) no_members)) no_members
 
-abbrev pub found_data : Fields → Asked → Answer → Data
-found_data s asked a =
+-- the reply with these documents
+abbrev pub found_object : Data → ℕ → ℕ → Data
+found_object docs n start =
     object (member (codes "response") (object (
-    member (codes "docs") (array (docs_data s asked.fields a.docs)) (
-    member (codes "numFound") (count a.found) (
-    member (codes "numFoundExact") (boolean true) (
-    member (codes "start") (count asked.start) no_members))))) (header 0))
+      member (codes "docs") docs (
+      member (codes "numFound") (count n) (
+      member (codes "numFoundExact") (boolean true) (
+      member (codes "start") (count start) no_members))))) (header 0))
+
+abbrev pub found_data : Fields → Asked → Answer → Data
+found_data s asked a = found_object (docs_items s asked.fields a.docs) a.found asked.start
 
 abbrev pub refused_data : ℕ → List ℕ → Data
 refused_data code message =

@@ -1,0 +1,16 @@
+pub mod Words
+pub mod Floats
+pub mod Filters
+pub mod Turns
+pub mod Chains
+pub mod Stands
+pub mod Bounded
+pub mod JournalGrows
+pub mod Served
+pub mod Counted
+pub mod Lives
+pub mod Tickets
+pub mod SerialLawful
+pub mod Replies
+pub mod Rooms
+pub mod Commits
