@@ -1,5 +1,6 @@
 -- Documents have no floats.
-use Rattle.std.proofs.Common.{◌≡◌, refl, ap, sym, ◌∙◌, ℕ, List, [], ◌∷◌, Bool, true, false, ◌||◌, cond, false≢true, ℤ, pos, negsuc, map}
+use Rattle.std.proofs.Common.{◌≡◌, refl, ap, sym, ◌∙◌, ℕ, List, [], ◌∷◌, Bool, true, false, ◌||◌, cond, ℤ, pos, negsuc, map}
+use Rattle.std.proofs.lemmas.Bool.{false≢true}
 use Rattle.std.specs.Ordering.{nat_cmp, match_ordering}
 use Rattle.std.specs.declared.cmp.Ordering.{Ordering}
 use Rattle.std.specs.declared.cmp.Ordering.TheVariants.{Less, Equal, Greater}
@@ -15,7 +16,7 @@ use Rattle.field_schema.specs.declared.key.Key.TheVariants as key
 use Rattle.field_schema.specs.Schema.{Fields}
 use Rattle.doc_model.specs.Document.{Document}
 use Rattle.doc_model.specs.DocJson.{key_data, keys_data, first_data, field_data, is_shown, doc_members, doc_data}
-use Rattle.search_model.specs.Reply.{docs_items}
+use Rattle.search_model.specs.Reply.{docs_items, found_object}
 
 or_false : (a b : Bool) → a ≡ false → b ≡ false → (a || b) ≡ false
 or_false a b p q = ap (λ x. x || b) p ∙ q
@@ -70,3 +71,6 @@ whole_members l (f ∷ fs) (ks ∷ d) =
 pub whole_docs : (s : Fields) (l : FieldList) (ds : List Document) → has_float (docs_items s l ds) ≡ false
 whole_docs s l [] = refl
 whole_docs s l (d ∷ ds) = or_false (members_have_float (doc_members l s.list d)) (items_have_float (items_of (map (doc_data s l) ds))) (whole_members l s.list d) (whole_docs s l ds)
+
+pub whole_found : (docs : Data) (n start : ℕ) → has_float docs ≡ false → has_float (found_object docs n start) ≡ false
+whole_found docs n start h = rw h

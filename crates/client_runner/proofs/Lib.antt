@@ -11,3 +11,6 @@ pub mod Counted
 pub mod Lives
 pub mod Tickets
 pub mod SerialLawful
+pub mod Replies
+pub mod Rooms
+pub mod Commits

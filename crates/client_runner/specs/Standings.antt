@@ -1,5 +1,5 @@
 -- The runner's state as the serial run's.
-use Rattle.std.specs.Prelude.{◌≡◌, ℕ, ◌+◌, ◌*◌, ◌<◌, ◌^◌, List, map, Option}
+use Rattle.std.specs.Prelude.{◌≡◌, ℕ, ◌+◌, ◌*◌, ◌<◌, ◌^◌, List, length, map, Option}
 use Rattle.std.specs.Arc.{arc_value}
 use Rattle.field_schema.specs.Schema.{Fields}
 use Rattle.doc_model.specs.Document.{Document}
@@ -54,9 +54,15 @@ shown_row h place generation ticket r = record {
   docs = r.docs;
 }
 
--- the numbers of the state leave room for n more lines, and its documents are kept by the schema's unique key
+-- its numbers leave room for n more lines
+pub record HasRoom (n : ℕ) (st : Standing) : Type 0 where
+  pub place : st.place + 2 * n < 2 ^ 64
+  pub generation : st.current.generation + n < 2 ^ 32
+  pub acquired : st.current.acquired + n < 2 ^ 32
+  pub served : length st.served + n < 2 ^ 32
+  pub docs : length st.docs + n < 2 ^ 32
+
+-- there is room for n more lines, and the documents are kept by the schema's unique key
 pub record CanGoOn (s : Fields) (n : ℕ) (r : Runner) : Type 0 where
   pub id : r.pending.id ≡ s.key
-  pub place : r.place + 2 * n < 2 ^ 64
-  pub generation : r.current.generation + n < 2 ^ 32
-  pub acquired : r.current.acquired + n < 2 ^ 32
+  pub room : HasRoom n (standing r)

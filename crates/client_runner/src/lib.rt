@@ -7,8 +7,10 @@ mod laws;
 mod pending;
 mod reply;
 mod rows;
+mod run;
 mod runner;
 mod search;
 
 pub use laws::serial_runs_are_lawful;
 pub use rows::{Output, RequestRow, RequestRows, SearcherList, SearcherRow, Verb};
+pub use run::run_script;

@@ -43,8 +43,7 @@ pub(crate) fn found_value(
     found: u32,
     start: u32,
 ) -> Result<Value, AllocError>
-    ensures reply { IfOk result (λ v. view v ≡ found_object (view docs) found start) }
-    ensures whole { has_float (view docs) ≡ false → IfOk result (λ v. has_float (view v) ≡ false) }
+    ensures { IfOk result (λ v. view v ≡ found_object (view docs) found start) }
 {
     json!(in alloc; {
         "response": {"docs": docs, "numFound": found, "numFoundExact": true, "start": start},
@@ -58,8 +57,7 @@ pub(crate) fn docs_value(
     schema: &Schema,
     docs: &[Arc<Doc>],
 ) -> Result<Value, NoMemory>
-    ensures docs { IfOk result (λ v. view v ≡ docs_items schema.now FieldList.All (map arc_value docs.now)) }
-    ensures whole { IfOk result (λ v. has_float (view v) ≡ false) }
+    ensures { IfOk result (λ v. view v ≡ docs_items schema.now FieldList.All (map arc_value docs.now)) }
 {
     let mut values = Vec::with_capacity(alloc, docs.len())?;
     for doc in docs {

@@ -54,7 +54,8 @@ pub(crate) struct Runner {
 impl Runner {
     /// Before the first line.
     pub(crate) fn new(alloc: Global, schema: &Schema) -> Runner
-        ensures { standing result ≡ start }
+        ensures start { standing result ≡ start }
+        ensures id { result.pending.id ≡ schema.now.key }
     {
         Runner {
             pending: Pending::new(alloc, schema.key_field()),
@@ -82,7 +83,8 @@ impl Runner {
         ticket: Option<u32>,
         reply: Reply,
     ) -> Result<(), NoMemory>
-        ensures { OnOk result (standing self.new ≡ told_too (standing self.old) (shown_row head place generation ticket reply)) }
+        ensures id { self.new.pending.id ≡ self.old.pending.id }
+        ensures served { OnOk result (standing self.new ≡ told_too (standing self.old) (shown_row head place generation ticket reply)) }
     {
         self.rows.push(RequestRow {
             client: head.client,
@@ -153,21 +155,22 @@ fn found_reply(
 
 impl Runner {
     /// Refuses a request, which changes nothing.
-    fn refuse(
+    pub(crate) fn refuse(
         &mut self,
         alloc: Global,
         schema: &Schema,
         head: Head,
         message: &str,
     ) -> Result<(), NoMemory>
-        ensures { (body : List ℕ) → OnOk result (standing self.new ≡ refuse schema.now (request_of head body) (standing self.old) message.now) }
+        ensures id { self.new.pending.id ≡ self.old.pending.id }
+        ensures served { (body : List ℕ) → OnOk result (standing self.new ≡ refuse schema.now (request_of head body) (standing self.old) message.now) }
     {
         let reply = refused_reply(alloc, schema, message)?;
         self.tell(head, None, None, None, reply)
     }
 
     /// Adds a document, or refuses it with its first fault.
-    fn add(
+    pub(crate) fn add(
         &mut self,
         alloc: Global,
         schema: &Schema,
@@ -175,7 +178,8 @@ impl Runner {
         body: &str,
     ) -> Result<(), NoMemory>
         requires { CanGoOn schema.now 1 self.old }
-        ensures { OnOk result (standing self.new ≡ update schema.now (request_of head body.now) (standing self.old) (result_map_both added doc_message (doc_of schema.now body.now))) }
+        ensures id { self.new.pending.id ≡ self.old.pending.id }
+        ensures served { OnOk result (standing self.new ≡ update schema.now (request_of head body.now) (standing self.old) (result_map_both added doc_message (doc_of schema.now body.now))) }
     {
         match Doc::read(alloc, schema, body) {
             Ok(doc) => self.accept(alloc, schema, head, doc),
@@ -195,7 +199,8 @@ impl Runner {
         doc: Doc,
     ) -> Result<(), NoMemory>
         requires { CanGoOn schema.now 1 self.old }
-        ensures { (body : List ℕ) → OnOk result (standing self.new ≡ update schema.now (request_of head body) (standing self.old) (Ok (added doc))) }
+        ensures id { self.new.pending.id ≡ self.old.pending.id }
+        ensures served { (body : List ℕ) → OnOk result (standing self.new ≡ update schema.now (request_of head body) (standing self.old) (Ok (added doc))) }
     {
         let reply = accepted_reply(alloc, schema)?;
         self.pending.add(alloc, doc)?;
@@ -205,9 +210,15 @@ impl Runner {
     }
 
     /// Opens the next searcher, warms it from the current one and registers it.
-    fn open(&mut self, alloc: Global, schema: &Schema, head: Head) -> Result<(), NoMemory>
+    pub(crate) fn open(
+        &mut self,
+        alloc: Global,
+        schema: &Schema,
+        head: Head,
+    ) -> Result<(), NoMemory>
         requires { CanGoOn schema.now 1 self.old }
-        ensures { (body : List ℕ) → OnOk result (standing self.new ≡ open_next schema.now (request_of head body) (standing self.old)) }
+        ensures id { self.new.pending.id ≡ self.old.pending.id }
+        ensures served { (body : List ℕ) → OnOk result (standing self.new ≡ open_next schema.now (request_of head body) (standing self.old)) }
     {
         let reply = accepted_reply(alloc, schema)?;
         let served = self.pending.share(alloc)?;
@@ -231,16 +242,16 @@ impl Runner {
     }
 
     /// Answers a query on what the current searcher sees.
-    fn query(
+    pub(crate) fn query(
         &mut self,
         alloc: Global,
         schema: &Schema,
         head: Head,
         body: &str,
     ) -> Result<(), NoMemory>
-        requires room { CanGoOn schema.now 1 self.old }
-        requires served { vec_len self.old.served < 2 ^ 32 }
-        ensures { OnOk result (standing self.new ≡ query_as schema.now (request_of head body.now) (standing self.old) (query_of schema.now body.now)) }
+        requires { CanGoOn schema.now 1 self.old }
+        ensures id { self.new.pending.id ≡ self.old.pending.id }
+        ensures served { OnOk result (standing self.new ≡ query_as schema.now (request_of head body.now) (standing self.old) (query_of schema.now body.now)) }
     {
         let Some((field, word)) = query_term(schema, body) else {
             return self.refuse(alloc, schema, head, "NotBuilt");

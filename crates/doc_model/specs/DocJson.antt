@@ -1,6 +1,6 @@
 -- A document as JSON.
-use Rattle.std.specs.Prelude.{ℕ, List, [], ◌∷◌, length, Bool, true, ◌&&◌, nat_lt, if◌then◌else◌, filter}
-use Rattle.std.specs.List.{list_any, zip}
+use Rattle.std.specs.Prelude.{List, [], ◌∷◌, length, Bool, true, ◌&&◌, nat_lt, if◌then◌else◌}
+use Rattle.std.specs.List.{list_any}
 use Rattle.serde_json.specs.Data.{Data, null, boolean, number, string, array, object, Items, no_items, item, Members, no_members, put}
 use Rattle.serde_json.specs.Find.{of_integer}
 use Rattle.field_schema.specs.declared.field.Field.{Field}

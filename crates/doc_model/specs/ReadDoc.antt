@@ -1,11 +1,11 @@
 -- Which document a body reads to, and its first fault.
-use Rattle.std.specs.Prelude.{◌≡◌, ℕ, zero, suc, ◌^◌, List, [], ◌∷◌, ◌++◌, length, Bool, true, false, not, ◌&&◌, ◌||◌, ◌==◌, nat_lt, nat_le, if◌then◌else◌, Option, Some, None, is_some, is_none, option_and_then, option_map, unwrap_or, Result, Ok, Err, codes, position, map, slice_get, slice_index, decimal, ℤ, pos, negsuc}
+use Rattle.std.specs.Prelude.{ℕ, ◌^◌, List, [], ◌∷◌, ◌++◌, length, Bool, true, false, not, ◌&&◌, ◌||◌, ◌==◌, nat_lt, if◌then◌else◌, Option, Some, None, option_and_then, option_map, unwrap_or, Result, Ok, Err, codes, map, slice_get, slice_index, decimal, ℤ, pos, negsuc}
 use Rattle.std.specs.Option.{option_map_or}
-use Rattle.std.specs.List.{list_all, list_any}
+use Rattle.std.specs.List.{list_all}
 use Rattle.std.specs.Fmt.{signed_decimal}
 use Rattle.std.specs.Str.{all_ascii_digits}
 use Rattle.std.specs.Str.Parse.{without_leading_sign, signed_digits_value}
-use Rattle.serde_json.specs.Data.{Num, unsigned, negative, float, Data, null, boolean, number, string, array, object, Items, Members, no_members, member}
+use Rattle.serde_json.specs.Data.{Num, unsigned, negative, float, Data, null, boolean, number, string, array, object, Members, no_members, member}
 use Rattle.serde_json.specs.Find.{get_member, as_object, as_i64}
 use Rattle.serde_json.specs.Read.{read}
 use Rattle.field_schema.specs.declared.field.Field.{Field}
@@ -13,7 +13,7 @@ use Rattle.field_schema.specs.declared.field.FieldType.{FieldType}
 use Rattle.field_schema.specs.declared.field.FieldType.TheVariants as kind
 use Rattle.field_schema.specs.declared.key.Key.{Key}
 use Rattle.field_schema.specs.declared.key.Key.TheVariants as key
-use Rattle.field_schema.specs.Schema.{Fields, field_named, is_str}
+use Rattle.field_schema.specs.Schema.{Fields, field_named}
 use Rattle.field_schema.specs.ReadSchema.{listed}
 use Rattle.doc_model.specs.declared.doc.DocFault.{DocFault}
 use Rattle.doc_model.specs.declared.doc.DocFault.TheVariants as fault

@@ -1,10 +1,11 @@
-ghost use Rattle.std.specs.Prelude.{◌≡◌, [], IfOk, map, slice_index_or};
+ghost use Rattle.std.specs.Prelude.{◌≡◌, [], map, slice_index_or};
 ghost use Rattle.std.specs.Arc.{arc_value};
 ghost use Rattle.field_schema.specs.Outcome.{Gives};
 ghost use Rattle.doc_model.specs.Document.{keys_at};
 ghost use Rattle.doc_model.specs.ReadDoc.{doc_of, is_no_memory};
 
-use field_schema::{FieldNo, Key, Schema, Text};
+use crate::object::{read_members, read_object};
+use field_schema::{FieldNo, Key, NoMemory, Schema, Text};
 use std::alloc::Global;
 use std::marker::Model;
 use std::sync::Arc;
@@ -12,13 +13,13 @@ use std::sync::Arc;
 /// Why a body is no document: the first fault. Members are looked at in the order of their names' bytes.
 #[derive(Debug, Drop)]
 pub enum DocFault {
-    /// The body does not read as JSON, or is no object.
+    /// The body does not read as JSON nested to at most 127, or is no object.
     NotObject,
-    /// The unique key has no value.
+    /// The unique key's member is absent or null, or a list with no value in it.
     NoId,
     /// No field has the member's name.
     UnknownField { name: Text },
-    /// A value is not one of the field's type.
+    /// A value is none that the field's type takes.
     BadValue { field: Text },
     /// Several values came to a field that takes one.
     ManyValues { field: Text },
@@ -26,6 +27,17 @@ pub enum DocFault {
     TooLong { bytes: usize },
     /// Memory was wanting.
     NoMemory,
+}
+
+impl From<NoMemory> for DocFault {
+    ghost use Rattle.std.specs.Prelude.{◌≡◌};
+    ghost use Rattle.doc_model.specs.declared.doc.DocFault.TheVariants as fault;
+
+    ghost from_gives = { λ _ e. e ≡ fault.NoMemory };
+
+    fn from(_error: NoMemory) -> DocFault {
+        DocFault::NoMemory
+    }
 }
 
 /// A document. Contracts see for each field, in the order of the schema, the list of its keys.
@@ -49,12 +61,30 @@ impl Model for Doc {
 impl Doc {
     /// The document that a body reads to, or its first fault.
     ///
-    /// The body is one JSON object. It costs the body's length times the logarithm of its members, and a
-    /// comparison a field for each member.
+    /// The body is one JSON object; of a repeated member the last one counts. A list gives its values one by
+    /// one, and null gives none.
+    ///
+    /// - A string or text field takes texts as they stand, whole numbers by their decimal digits, and truth
+    ///   values as `true` and `false`.
+    /// - A number field takes whole numbers of 64 signed bits, and texts that write one, with a sign or zeros
+    ///   before it or without.
+    /// - A truth field takes truth values, and texts and whole numbers: these are true exactly where they begin
+    ///   with `1`, `t` or `T`. So Solr's boolean fields read texts.
+    /// - No field takes a number with a fraction or an exponent, an object, or a list inside a list. A number is
+    ///   whole where JSON's reader keeps it in 64 bits, signed or unsigned: `-0` and `1e2` are not.
+    ///
+    /// Faults come in this order: `NotObject`, `NoId`, then the members by the bytes of their names, and in each
+    /// `UnknownField`, `BadValue`, `ManyValues`, `TooLong`. Want of memory is told as `NoMemory` and as nothing
+    /// else.
+    ///
+    /// It costs the body's length times the logarithm of its members, and for each member a comparison with each
+    /// field's name.
     pub fn read(alloc: Global, schema: &Schema, body: &str) -> Result<Doc, DocFault>
         ensures { Gives is_no_memory result (doc_of schema.now body.now) }
     {
-        Err(DocFault::NoMemory)
+        let members = read_members(alloc, body)?;
+        let fields = read_object(alloc, schema, &members)?;
+        Ok(Doc { fields })
     }
 
     /// The keys in a field, in their order; none where there is no such field. It costs nothing.

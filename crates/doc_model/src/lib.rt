@@ -3,6 +3,10 @@
 
 mod doc;
 mod json;
+mod object;
+#[cfg(test)]
+mod tests;
+mod value;
 
 pub use doc::{Doc, DocFault, Docs};
 pub use json::doc_json;

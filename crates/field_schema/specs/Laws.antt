@@ -1,4 +1,6 @@
--- The laws of the comparisons of texts, of lists of texts and of keys.
+-- The laws of the comparisons of texts, of lists of texts and of keys. Of each of the three, `-same` says that what
+-- the test finds equal is one value, `-refl` that a value equals itself, `-Decides` both, and `_total`, `_equiv`,
+-- `_po` and `_ties` are the laws of the traits.
 use Rattle.std.specs.Prelude.{◌≡◌, ℕ, ℤ, List, [], Bool, true, false, pos, Decides, Some, refl}
 use Rattle.std.specs.Ordering.{nat_cmp, int_cmp, bool_cmp, ordering_then, then_cmp, on, eq_by_cmp, is_eq}
 use Rattle.std.specs.declared.cmp.Ordering.{Ordering}
@@ -23,6 +25,12 @@ bytes_eq-same s t = (bytes_decides s t).0
 pub bytes_eq-refl : (s : List ℕ) → bytes_eq s s ≡ true
 bytes_eq-refl s = (bytes_decides s s).1 refl
 
+pub bytes_cmp-refl : (s : List ℕ) → bytes_cmp s s ≡ Equal
+bytes_cmp-refl s = tied_itself nat_list_cmp_total s
+
+pub bytes_cmp-same : (s t : List ℕ) → bytes_cmp s t ≡ Equal → s ≡ t
+bytes_cmp-same s t h = bytes_eq-same s t (texts_ties s t ∙ ap is_eq h)
+
 -- ---- lists of texts
 
 pub texts_eq-Decides : (s t : List (List ℕ)) → Decides (texts_eq s t) (s ≡ t)
@@ -42,6 +50,12 @@ texts_cmp_total = lists_total nat_list_cmp_total
 
 pub texts_cmp_ties : (s t : List (List ℕ)) → texts_eq s t ≡ eq_by_cmp texts_cmp s t
 texts_cmp_ties = lists_ties bytes_cmp texts_ties
+
+pub texts_cmp-refl : (s : List (List ℕ)) → texts_cmp s s ≡ Equal
+texts_cmp-refl s = tied_itself texts_cmp_total s
+
+pub texts_cmp-same : (s t : List (List ℕ)) → texts_cmp s t ≡ Equal → s ≡ t
+texts_cmp-same s t h = texts_eq-same s t (texts_cmp_ties s t ∙ ap is_eq h)
 
 pub texts_cmp_po : IsPartialOrder texts_eq (λ s t. Some (texts_cmp s t))
 texts_cmp_po = po texts_cmp_total texts_cmp_ties

@@ -21,6 +21,7 @@ pub enum FieldType {
 pub struct Field {
     /// 1 to 64 ASCII letters, digits and `_`, not beginning with a digit.
     pub name: Text,
+    /// What its values are.
     pub kind: FieldType,
     /// Whether a document may have several values in it.
     pub multi: bool,
@@ -33,6 +34,8 @@ pub struct Field {
 /// Which stored fields a reply shows.
 #[derive(Debug, Drop)]
 pub enum FieldList {
+    /// All of them.
     All,
+    /// Those with one of these names; a name of no stored field adds nothing.
     Names(Texts),
 }

@@ -1,4 +1,12 @@
-//! The typed schema: fields, keys of documents in a field, and the tokens of a text.
+//! The typed schema of an index: its fields and unique key, the keys that a document has in a field, and the
+//! tokens of a text.
+//!
+//! - [`Schema::read`] reads a schema from JSON, or tells the first fault of the value.
+//! - [`Key`] is a value as queries and sorts see it, with a total order.
+//! - [`tokens`] splits a text into the tokens that a text field is searched by.
+//!
+//! Contracts see a `Text` as its bytes, a `Texts` as the list of those, and a `Schema` as the list of its fields
+//! and the place of its key.
 #![tactic(auto)]
 
 mod field;

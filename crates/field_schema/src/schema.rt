@@ -73,6 +73,14 @@ impl Model for Schema {
 
 impl Schema {
     /// The schema that a JSON value reads to, or its first fault.
+    ///
+    /// The value is an object with a text `uniqueKey` and a list `fields` of objects, each with texts `name` and
+    /// `type` and, where they are there, truth values `multiValued` (else false), `stored` (else true) and
+    /// `indexed` (else true). A type is `string`, `plong`, `boolean` or `text_general`. Other members are ignored.
+    ///
+    /// `NotObject` comes first; then each field in turn is looked at for `BadName`, `BadType` and `Twice`; then
+    /// comes `NoUniqueKey`. `NoMemory` comes only where memory is wanting. The cost is linear in the value's
+    /// fields, of which at most 64 are compared with each other by name.
     pub fn read(alloc: Global, value: &Value) -> Result<Schema, SchemaFault>
         ensures { Gives is_no_memory result (schema_of (view value.now)) }
     {

@@ -14,150 +14,55 @@ fn outcome(alloc: Global, text: &str) -> Result<String, Fail> {
     Ok(shown)
 }
 
+// Rows of a schema's text and what it reads to.
+const SCHEMAS: &str = r#"{} | NotObject
+[] | NotObject
+"fields" | NotObject
+null | NotObject
+{"uniqueKey":"k"} | NotObject
+{"fields":null,"uniqueKey":"k"} | NotObject
+{"fields":{},"uniqueKey":"k"} | NotObject
+{"fields":[],"uniqueKey":"k"} | NotObject
+{"fields":[1],"uniqueKey":"k"} | NotObject
+{"fields":[{"name":"k"}],"uniqueKey":"k"} | NotObject
+{"fields":[{"type":"string"}],"uniqueKey":"k"} | NotObject
+{"fields":[{"name":1,"type":"string"}],"uniqueKey":"k"} | NotObject
+{"fields":[{"name":"k","type":null}],"uniqueKey":"k"} | NotObject
+{"fields":[{"name":"score","type":"string"},{"name":"k"}],"uniqueKey":"k"} | NotObject
+{"fields":[{"name":"score","type":"string"}],"uniqueKey":"k"} | BadName { name: score }
+{"fields":[{"name":"_docid_","type":"string"}]} | BadName { name: _docid_ }
+{"fields":[{"name":"AND","type":"string"}]} | BadName { name: AND }
+{"fields":[{"name":"OR","type":"string"}]} | BadName { name: OR }
+{"fields":[{"name":"NOT","type":"string"}]} | BadName { name: NOT }
+{"fields":[{"name":"TO","type":"string"}]} | BadName { name: TO }
+{"fields":[{"name":"","type":"string"}]} | BadName { name:  }
+{"fields":[{"name":"7k","type":"string"}]} | BadName { name: 7k }
+{"fields":[{"name":"a-b","type":"string"}]} | BadName { name: a-b }
+{"fields":[{"name":"grün","type":"string"}]} | BadName { name: grün }
+{"fields":[{"name":"a b","type":"tint"}]} | BadName { name: a b }
+{"fields":[{"name":"k","type":"tint"}]} | BadType { name: k }
+{"fields":[{"name":"k","type":"String"}]} | BadType { name: k }
+{"fields":[{"name":"k","type":"string","multiValued":1}]} | BadType { name: k }
+{"fields":[{"name":"k","type":"string","stored":"true"}]} | BadType { name: k }
+{"fields":[{"name":"k","type":"string","indexed":null}]} | BadType { name: k }
+{"fields":[{"name":"k","type":"string"},{"name":"k","type":"tint"}]} | BadType { name: k }
+{"fields":[{"name":"k","type":"string"},{"name":"k","type":"plong"},{"name":"OR","type":"plong"}]} | Twice { name: k }
+{"fields":[{"name":"a","type":"tint"},{"name":"OR","type":"plong"}],"uniqueKey":"k"} | BadType { name: a }
+{"fields":[{"name":"k","type":"string"}]} | NoUniqueKey
+{"fields":[{"name":"k","type":"string"}],"uniqueKey":7} | NoUniqueKey
+{"fields":[{"name":"k","type":"string"}],"uniqueKey":"K"} | NoUniqueKey
+{"fields":[{"name":"k","type":"plong"}],"uniqueKey":"k"} | NoUniqueKey
+{"fields":[{"name":"k","type":"text_general"}],"uniqueKey":"k"} | NoUniqueKey
+{"fields":[{"name":"k","type":"string","multiValued":true}],"uniqueKey":"k"} | NoUniqueKey
+{"fields":[{"name":"k","type":"string","stored":false}],"uniqueKey":"k"} | NoUniqueKey
+{"fields":[{"name":"k","type":"string","indexed":false}],"uniqueKey":"k"} | NoUniqueKey
+{"fields":[{"name":"_7","type":"boolean"},{"name":"k","type":"string"}],"uniqueKey":"k","x":1} | 2 fields, key 1"#;
+
 #[test]
 fn schemas_have_one_first_fault(rt: HostRuntime) -> Result<(), Fail> {
-    let alloc = rt.alloc();
-    for (text, wanted) in [
-        (r#"{}"#, "NotObject"),
-        (r#"[]"#, "NotObject"),
-        (r#""fields""#, "NotObject"),
-        (r#"null"#, "NotObject"),
-        (r#"{"uniqueKey":"k"}"#, "NotObject"),
-        (r#"{"fields":null,"uniqueKey":"k"}"#, "NotObject"),
-        (r#"{"fields":{},"uniqueKey":"k"}"#, "NotObject"),
-        (r#"{"fields":[],"uniqueKey":"k"}"#, "NotObject"),
-        (r#"{"fields":[1],"uniqueKey":"k"}"#, "NotObject"),
-        (r#"{"fields":[{"name":"k"}],"uniqueKey":"k"}"#, "NotObject"),
-        (
-            r#"{"fields":[{"type":"string"}],"uniqueKey":"k"}"#,
-            "NotObject",
-        ),
-        (
-            r#"{"fields":[{"name":1,"type":"string"}],"uniqueKey":"k"}"#,
-            "NotObject",
-        ),
-        (
-            r#"{"fields":[{"name":"k","type":null}],"uniqueKey":"k"}"#,
-            "NotObject",
-        ),
-        (
-            r#"{"fields":[{"name":"score","type":"string"},{"name":"k"}],"uniqueKey":"k"}"#,
-            "NotObject",
-        ),
-        (
-            r#"{"fields":[{"name":"score","type":"string"}],"uniqueKey":"k"}"#,
-            "BadName { name: score }",
-        ),
-        (
-            r#"{"fields":[{"name":"_docid_","type":"string"}]}"#,
-            "BadName { name: _docid_ }",
-        ),
-        (
-            r#"{"fields":[{"name":"AND","type":"string"}]}"#,
-            "BadName { name: AND }",
-        ),
-        (
-            r#"{"fields":[{"name":"OR","type":"string"}]}"#,
-            "BadName { name: OR }",
-        ),
-        (
-            r#"{"fields":[{"name":"NOT","type":"string"}]}"#,
-            "BadName { name: NOT }",
-        ),
-        (
-            r#"{"fields":[{"name":"TO","type":"string"}]}"#,
-            "BadName { name: TO }",
-        ),
-        (
-            r#"{"fields":[{"name":"","type":"string"}]}"#,
-            "BadName { name:  }",
-        ),
-        (
-            r#"{"fields":[{"name":"7k","type":"string"}]}"#,
-            "BadName { name: 7k }",
-        ),
-        (
-            r#"{"fields":[{"name":"a-b","type":"string"}]}"#,
-            "BadName { name: a-b }",
-        ),
-        (
-            r#"{"fields":[{"name":"grün","type":"string"}]}"#,
-            "BadName { name: grün }",
-        ),
-        (
-            r#"{"fields":[{"name":"a b","type":"tint"}]}"#,
-            "BadName { name: a b }",
-        ),
-        (
-            r#"{"fields":[{"name":"k","type":"tint"}]}"#,
-            "BadType { name: k }",
-        ),
-        (
-            r#"{"fields":[{"name":"k","type":"String"}]}"#,
-            "BadType { name: k }",
-        ),
-        (
-            r#"{"fields":[{"name":"k","type":"string","multiValued":1}]}"#,
-            "BadType { name: k }",
-        ),
-        (
-            r#"{"fields":[{"name":"k","type":"string","stored":"true"}]}"#,
-            "BadType { name: k }",
-        ),
-        (
-            r#"{"fields":[{"name":"k","type":"string","indexed":null}]}"#,
-            "BadType { name: k }",
-        ),
-        (
-            r#"{"fields":[{"name":"k","type":"string"},{"name":"k","type":"tint"}]}"#,
-            "BadType { name: k }",
-        ),
-        (
-            r#"{"fields":[{"name":"k","type":"string"},{"name":"k","type":"plong"},{"name":"OR","type":"plong"}]}"#,
-            "Twice { name: k }",
-        ),
-        (
-            r#"{"fields":[{"name":"a","type":"tint"},{"name":"OR","type":"plong"}],"uniqueKey":"k"}"#,
-            "BadType { name: a }",
-        ),
-        (
-            r#"{"fields":[{"name":"k","type":"string"}]}"#,
-            "NoUniqueKey",
-        ),
-        (
-            r#"{"fields":[{"name":"k","type":"string"}],"uniqueKey":7}"#,
-            "NoUniqueKey",
-        ),
-        (
-            r#"{"fields":[{"name":"k","type":"string"}],"uniqueKey":"K"}"#,
-            "NoUniqueKey",
-        ),
-        (
-            r#"{"fields":[{"name":"k","type":"plong"}],"uniqueKey":"k"}"#,
-            "NoUniqueKey",
-        ),
-        (
-            r#"{"fields":[{"name":"k","type":"text_general"}],"uniqueKey":"k"}"#,
-            "NoUniqueKey",
-        ),
-        (
-            r#"{"fields":[{"name":"k","type":"string","multiValued":true}],"uniqueKey":"k"}"#,
-            "NoUniqueKey",
-        ),
-        (
-            r#"{"fields":[{"name":"k","type":"string","stored":false}],"uniqueKey":"k"}"#,
-            "NoUniqueKey",
-        ),
-        (
-            r#"{"fields":[{"name":"k","type":"string","indexed":false}],"uniqueKey":"k"}"#,
-            "NoUniqueKey",
-        ),
-        (
-            r#"{"fields":[{"name":"_7","type":"boolean"},{"name":"k","type":"string"}],"uniqueKey":"k","x":1}"#,
-            "2 fields, key 1",
-        ),
-    ] {
-        assert_eq!(rt; outcome(alloc, text)?.as_str(), wanted, "at {text}");
+    for row in SCHEMAS.lines() {
+        let (text, wanted) = row.split_once(" | ").ok_or("a row")?;
+        assert_eq!(rt; outcome(rt.alloc(), text)?.as_str(), wanted, "at {text}");
     }
     Ok(())
 }
@@ -242,7 +147,7 @@ fn a_schema_is_made_of_names(rt: HostRuntime) -> Result<(), Fail> {
     let alloc = rt.alloc();
     let id = Text::from_str(alloc, "id")?;
     let cat = Text::from_str(alloc, "cat")?;
-    let names = Texts::new(vec![in alloc; id, cat]?);
+    let names = Texts::new(vec![in alloc; id.copy(alloc)?, cat]?);
     let schema = Schema::strings(alloc, names, 1)?;
     assert_eq!(rt; (schema.field("cat"), schema.key_field()), (Some(1), 1));
     Ok(())
@@ -261,7 +166,7 @@ fn texts_are_read_as_tokens(rt: HostRuntime) -> Result<(), Fail> {
         ("x_y@Z9\n[`{", "Texts { items: [x, y, z9] }"),
         ("a\u{a0}b", "Texts { items: [a\u{a0}b] }"),
     ] {
-        let found = tokens(alloc, text)?;
+        let found = tokens(alloc, text)?.copy(alloc)?;
         assert_eq!(rt;
             format!(in alloc; "{found:?}")?.as_str(),
             wanted,

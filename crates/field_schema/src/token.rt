@@ -6,8 +6,10 @@ use crate::text::{Text, Texts};
 use std::alloc::Global;
 use std::mem;
 
-/// The tokens of a text, in their order: the maximal runs of ASCII letters, ASCII digits and characters past
-/// ASCII, with ASCII letters in lower case. It costs the text's length.
+/// The tokens of a text, in their order.
+///
+/// A token is as long a run as can be of ASCII's letters and digits and of characters beyond ASCII. `A` to `Z`
+/// become `a` to `z`, and every other character stays as it is. It costs the text's length.
 #[tactic(auto, using(crate::proofs::TokenRuns::after_is_tokens, crate::proofs::TokenRuns::after_goes_on, crate::proofs::TokenRuns::after_ends))]
 pub fn tokens(alloc: Global, text: &str) -> Result<Texts, NoMemory>
     ensures { IfOk result (λ t. t ≡ tokens_of text.now) }

@@ -1,9 +1,9 @@
 -- Which configuration the input begins with, in the forms that are built so far.
-use Rattle.std.specs.Prelude.{ℕ, List, Bool, true, false, ◌&&◌, if◌then◌else◌, Option, Some, None, option_and_then, option_map, Ok, Err, Result, codes, ⊤, ◌≡◌}
+use Rattle.std.specs.Prelude.{ℕ, List, Bool, false, ◌&&◌, if◌then◌else◌, Option, Some, None, option_and_then, option_map, codes, ⊤, ◌≡◌}
 use Rattle.std.specs.List.{list_all}
 use Rattle.std.specs.Result.{result_ok}
 use Rattle.std.specs.Str.{is_utf8}
-use Rattle.serde_json.specs.Data.{Data, null, boolean, number, string, array, object, Members, no_members, member}
+use Rattle.serde_json.specs.Data.{Data, object, no_members, member}
 use Rattle.serde_json.specs.Read.{read}
 use Rattle.field_schema.specs.Bytes.{bytes_eq}
 use Rattle.field_schema.specs.Schema.{Fields}

@@ -1,5 +1,5 @@
 -- Which lines a script has, in the forms that are built so far.
-use Rattle.std.specs.Prelude.{ℕ, ◌+◌, List, [], ◌∷◌, length, drop, Bool, true, false, ◌||◌, ◌==◌, nat_eq, if◌then◌else◌, Option, Some, None, is_some, Result, Ok, Err, codes, slice_index, ⊤, ◌≡◌}
+use Rattle.std.specs.Prelude.{ℕ, ◌+◌, List, [], ◌∷◌, length, drop, Bool, ◌||◌, ◌==◌, nat_eq, if◌then◌else◌, Option, Some, None, is_some, Result, Ok, Err, codes, slice_index, ⊤, ◌≡◌}
 use Rattle.std.specs.List.{starts_with}
 use Rattle.std.specs.Option.{option_map_or}
 use Rattle.std.specs.Str.{is_utf8}

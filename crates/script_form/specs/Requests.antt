@@ -1,8 +1,8 @@
 -- What the bodies of requests read to, in the forms that are built so far.
-use Rattle.std.specs.Prelude.{ℕ, List, [], ◌∷◌, length, drop, Bool, true, false, not, ◌&&◌, ◌||◌, ◌==◌, nat_lt, nat_eq, if◌then◌else◌, Option, Some, None, option_map, option_and_then, is_ok, codes}
+use Rattle.std.specs.Prelude.{ℕ, List, [], length, drop, Bool, true, false, not, ◌&&◌, ◌||◌, ◌==◌, nat_lt, nat_eq, if◌then◌else◌, Option, None, option_map, option_and_then, is_ok, codes}
 use Rattle.std.specs.List.{list_all, before_first, after_first, starts_with}
 use Rattle.std.specs.Option.{option_map_or}
-use Rattle.serde_json.specs.Data.{Data, null, boolean, number, string, array, object, Members, no_members, member}
+use Rattle.serde_json.specs.Data.{null, boolean, number, string, array, object, Members, no_members, member}
 use Rattle.serde_json.specs.Find.{as_object}
 use Rattle.serde_json.specs.Read.{read}
 use Rattle.field_schema.specs.Bytes.{bytes_eq}

@@ -5,6 +5,8 @@ mod config;
 mod lines;
 mod requests;
 mod script;
+#[cfg(test)]
+mod tests;
 
 pub use config::{Config, ConfigFault, ConfigRefusal, WarmSetting, read_config};
 pub use lines::too_large;

@@ -1,4 +1,4 @@
-use Rattle.std.proofs.Common.{◌≡◌, ℕ, ◌+◌, ◌-◌, ◌≤◌, List, ◌∷◌, length, take, drop, length-drop, Option, Some, None, sym, ap, subst, ◌∙◌, arith, take_all}
+use Rattle.std.proofs.Common.{◌≡◌, ℕ, ◌+◌, ◌-◌, List, ◌∷◌, length, take, drop, length-drop, Option, Some, sym, ap, subst, ◌∙◌, arith, take_all}
 use Rattle.std.specs.Str.Lines.{lines}
 use Rattle.memchr.specs.Find.{IsFirstByte, is_byte}
 use Rattle.script_form.proofs.Cuts.{lines_at, lines_one}

@@ -1,4 +1,4 @@
-use Rattle.std.proofs.Common.{rules, tests, ◌≡◌, ◌<◌, ℕ, ◌||◌, ◌&&◌, List, length, nat_lt, Bool, sym, ap, ◌∙◌, arith}
+use Rattle.std.proofs.Common.{rules, tests, ◌≡◌, ◌<◌, ℕ, ◌||◌, ◌&&◌, List, length, Bool, sym, ap, ◌∙◌, arith}
 use Rattle.std.specs.List.{list_all}
 use Rattle.std.proofs.lemmas.Bool.{lt-ltb}
 use Rattle.std.proofs.lemmas.Iterator.Adapters.{YieldsList-from_bytes}

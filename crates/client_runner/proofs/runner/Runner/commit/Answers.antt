@@ -1,0 +1,13 @@
+use Rattle.std.proofs.Common.{◌≡◌, length, ◌==◌, true, sym, ◌∙◌, ap}
+use Rattle.client_runner.proofs.Commits.{commit_empty, commit_full}
+use Rattle.client_runner.proofs.runner.Runner.commit.Goals as goal
+
+-- no parameters
+pub returns-then-is_empty-clause-served : goal.returns-then-is_empty-clause-served
+returns-then-is_empty-clause-served c =
+    rw (commit_empty c.args.body.now (ap (λ t. length t == 0) (sym c.get.ensures) ∙ sym c.is_empty.ensures ∙ c.if-is_empty.true)) (c.open.ensures.served c.args.body.now)
+
+-- some that are not built yet
+pub returns-else-is_empty-clause-served : goal.returns-else-is_empty-clause-served
+returns-else-is_empty-clause-served c =
+    rw (commit_full c.args.body.now (ap (λ t. length t == 0) (sym c.get.ensures) ∙ sym c.is_empty.ensures ∙ c.if-is_empty.false)) (c.refuse.ensures.served c.args.body.now)

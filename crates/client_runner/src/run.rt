@@ -1,0 +1,120 @@
+ghost use Rattle.std.specs.Prelude.{◌≡◌, ◌+◌, ◌<◌, ◌≤◌, ◌^◌, IfOk, OnOk, length, vec_len};
+ghost use Rattle.run_laws.specs.Lawful.{Lawful};
+ghost use Rattle.run_laws.specs.Requests.{request_as};
+ghost use Rattle.client_runner.specs.Outputs.{output_view};
+ghost use Rattle.run_laws.specs.Reading.{commit_of};
+ghost use Rattle.client_runner.specs.Serial.{commit_as, output_at, serve};
+ghost use Rattle.client_runner.specs.Standings.{CanGoOn, request_of, standing};
+
+use crate::rows::{Output, RequestRows, SearcherList, Verb};
+use crate::runner::{Head, Runner};
+use field_schema::{NoMemory, Schema, Text};
+use rt_edge::Gate;
+use script_form::{Config, Line, Script, What};
+use std::alloc::Global;
+
+impl Runner {
+    /// Opens a searcher for a commit without parameters, or refuses a commit that has some.
+    fn commit(
+        &mut self,
+        alloc: Global,
+        schema: &Schema,
+        head: Head,
+        body: &Text,
+    ) -> Result<(), NoMemory>
+        requires { CanGoOn schema.now 1 self.old }
+        ensures id { self.new.pending.id ≡ self.old.pending.id }
+        ensures served { OnOk result (standing self.new ≡ commit_as schema.now (request_of head body.now) (standing self.old) (commit_of body.now)) }
+    {
+        if body.get().is_empty() {
+            self.open(alloc, schema, head)
+        } else {
+            self.refuse(alloc, schema, head, "NotBuilt")
+        }
+    }
+
+    /// Serves a line in its turn.
+    fn step(&mut self, alloc: Global, schema: &Schema, line: &Line) -> Result<(), NoMemory>
+        requires { CanGoOn schema.now 1 self.old }
+        ensures id { self.new.pending.id ≡ self.old.pending.id }
+        ensures served { OnOk result (standing self.new ≡ serve schema.now (standing self.old) (request_as 0 line.now.number line.now.what)) }
+    {
+        match &line.what {
+            What::Add { client, body } => {
+                let head = Head {
+                    client: *client,
+                    line: line.number,
+                    verb: Verb::Add,
+                };
+                self.add(alloc, schema, head, body.get())
+            }
+            What::Delete { client, body: _ } => {
+                let head = Head {
+                    client: *client,
+                    line: line.number,
+                    verb: Verb::Delete,
+                };
+                self.refuse(alloc, schema, head, "NotBuilt")
+            }
+            What::Query { client, body } => {
+                let head = Head {
+                    client: *client,
+                    line: line.number,
+                    verb: Verb::Query,
+                };
+                self.query(alloc, schema, head, body.get())
+            }
+            What::Commit { client, body } => {
+                let head = Head {
+                    client: *client,
+                    line: line.number,
+                    verb: Verb::Commit,
+                };
+                self.commit(alloc, schema, head, body)
+            }
+            What::PhaseEnd | What::Nothing => Ok(()),
+        }
+    }
+
+    /// What the run gives.
+    fn finish(self) -> Result<Output, NoMemory>
+        ensures { IfOk result (λ o. output_view o ≡ output_at (standing self)) }
+    {
+        let Runner {
+            pending: _,
+            served: _,
+            place: _,
+            rows,
+            mut earlier,
+            current,
+        } = self;
+        earlier.push(current)?;
+        Ok(Output {
+            requests: RequestRows::new(rows),
+            searchers: SearcherList::new(earlier),
+        })
+    }
+}
+
+/// Runs the script: each line in its turn.
+///
+/// Each client's requests are answered in the order of its lines, and each searcher is warmed and registered in
+/// the commit that opens it. It costs, for each add, a look at its unique key, for each commit a step a document,
+/// and for each query a comparison a document that its searcher sees.
+pub fn run_script<G: Gate>(
+    alloc: Global,
+    config: &Config,
+    script: &Script,
+    gate: &G,
+) -> Result<Output, NoMemory>
+    requires warming { 0 < config.now.max_warming }
+    requires lines { length script.now ≤ 100000 }
+    ensures lawful { IfOk result (λ o. Lawful config.now script.now (output_view o)) }
+{
+    let _ = gate;
+    let mut runner = Runner::new(alloc, &config.schema);
+    for line in script.get() {
+        runner.step(alloc, &config.schema, line)?;
+    }
+    runner.finish()
+}

@@ -1,0 +1,143 @@
+-- The walk over the members of an object.
+use Rattle.std.proofs.Common.{◌≡◌, ℕ, ◌+◌, Decides, zero, suc, ◌<◌, Bool, true, false, cond, not, ◌&&◌, ◌||◌, List, [], ◌∷◌, ◌++◌, length, take, map, add-one, Option, Some, None, option_and_then, unwrap_or, string_bytes, refl, sym, ap, ap₂, ◌∙◌, subst, arith, append_assoc, append-nil, IsTrue}
+use Rattle.std.specs.Prelude.{slice_get, slice_set}
+use Rattle.std.specs.List.{list_any, position_or_len}
+use Rattle.std.specs.List.Sorted.{IsStrictlySortedBy}
+use Rattle.std.specs.Map.{keys_of as names_of}
+use Rattle.std.specs.String.{string_cmp}
+use Rattle.serde_json.specs.Data.{Data, Members, no_members, put}
+use Rattle.serde_json.specs.View.{view, members_view}
+use Rattle.serde_json.proofs.Views.{Entry, put_last, get_member-put, get_member-put_other}
+use Rattle.field_schema.specs.Bytes.{bytes_eq}
+use Rattle.field_schema.specs.Schema.{field_named, names_differ}
+use Rattle.field_schema.specs.declared.field.Field.{Field}
+use Rattle.field_schema.specs.declared.key.Key.{Key}
+use Rattle.std.specs.Cmp.Lexicographic.{bytes_decides}
+use Rattle.doc_model.specs.declared.doc.DocFault.{DocFault}
+use Rattle.doc_model.specs.ReadDoc.{value_keys, keys_of, member_fault, members_fault}
+
+-- ---- the field of a name
+
+at_first_step : (p : Field → Bool) (g : Field) (fs : List Field) (f : Field) (n : ℕ) (b : Bool) → p g ≡ b
+    → slice_get (g ∷ fs) (cond (not b) (1 + n) 0) ≡ Some f → (slice_get fs n ≡ Some f → p f ≡ true) → p f ≡ true
+at_first_step p g fs f n true here e later = let same : g ≡ f = cc in rw (← same) here
+at_first_step p g fs f n false here e later =
+    let more : 1 + n ≡ suc n = omega arith in
+    later (subst (λ (k : ℕ). slice_get (g ∷ fs) k ≡ Some f) more e)
+
+at_first : (p : Field → Bool) (fs : List Field) (f : Field) → slice_get fs (position_or_len p fs) ≡ Some f → p f ≡ true
+at_first p [] f e = cc
+at_first p (g ∷ fs) f e = at_first_step p g fs f (position_or_len p fs) (p g) refl e (at_first p fs f)
+
+placed : (b : Bool) (n i : ℕ) → cond b (Some n) None ≡ Some i → n ≡ i
+placed true n i e = cc
+placed false n i e = cc
+
+pub name_of_field : (name : List ℕ) (fs : List Field) (i : ℕ) (f : Field) → field_named name fs ≡ Some i → slice_get fs i ≡ Some f → f.name ≡ name
+name_of_field name fs i f named here =
+    let place : position_or_len (λ g. bytes_eq g.name name) fs ≡ i = placed _ _ i named in
+    (bytes_decides f.name name).0 (at_first (λ g. bytes_eq g.name name) fs f (rw place here))
+
+-- no field of fs has the name
+abbrev none_named : List ℕ → List Field → Bool
+none_named name fs = not (list_any (λ g. bytes_eq g.name name) fs)
+
+other_name : (name : List ℕ) (g : Field) (gs : List Field) → none_named name (g ∷ gs) ≡ true → (g.name ≡ name → ⊥) × (none_named name gs ≡ true)
+other_name name g gs h = parts (bytes_eq g.name name) _ h (bytes_decides g.name name)
+  where
+    parts : (b c : Bool) → not (b || c) ≡ true → Decides b (g.name ≡ name) → (g.name ≡ name → ⊥) × (not c ≡ true)
+    parts true c h d = cc
+    parts false c h d = (λ same. let e : false ≡ true = d.1 same in cc, h)
+
+not_among : (name : List ℕ) (gs : List Field) (i : ℕ) (f : Field) → none_named name gs ≡ true → slice_get gs i ≡ Some f → (f.name ≡ name → ⊥)
+not_among name [] i f h e = λ same. cc
+not_among name (g ∷ gs) zero f h e = let here : g ≡ f = cc in λ same. (other_name name g gs h).0 (rw here same)
+not_among name (g ∷ gs) (suc i) f h e = not_among name gs i f (other_name name g gs h).1 e
+
+both : (a b : Bool) → IsTrue (a && b) → (a ≡ true) × IsTrue b
+both true b h = (refl, h)
+both false b h = cc
+
+-- ---- the keys of the fields
+
+keeps_keys : (name : List ℕ) (d : Data) (ms : Members) (g : Field) → (g.name ≡ name → ⊥) → keys_of ms g ≡ keys_of (put name d ms) g
+keeps_keys name d ms g other = ap (λ found. unwrap_or (option_and_then (value_keys g.kind) found) []) (sym (get_member-put_other g.name name d ms other))
+
+others_keep : (name : List ℕ) (d : Data) (ms : Members) (gs : List Field) → none_named name gs ≡ true → map (keys_of ms) gs ≡ map (keys_of (put name d ms)) gs
+others_keep name d ms [] h = refl
+others_keep name d ms (g ∷ gs) h =
+    let other = other_name name g gs h in
+    ap₂ (λ (k : List Key) ks. k ∷ ks) (keeps_keys name d ms g other.0) (others_keep name d ms gs other.1)
+
+new_keys : (name : List ℕ) (d : Data) (ms : Members) (f : Field) (keys : List Key) → f.name ≡ name → value_keys f.kind d ≡ Some keys → keys_of (put name d ms) f ≡ keys
+new_keys name d ms f keys same read = rw (same, get_member-put name d ms, read) refl
+
+-- the keys of one more member stand at its field
+pub set_keys : (name : List ℕ) (d : Data) (ms : Members) (keys : List Key) (fs : List Field) (i : ℕ) (f : Field)
+    → IsTrue (names_differ fs) → slice_get fs i ≡ Some f → f.name ≡ name → value_keys f.kind d ≡ Some keys
+    → slice_set (map (keys_of ms) fs) i keys ≡ map (keys_of (put name d ms)) fs
+set_keys name d ms keys [] i f apart here same read = cc
+set_keys name d ms keys (g ∷ gs) zero f apart here same read =
+    let is : g ≡ f = cc in
+    let named : g.name ≡ name = rw is same in
+    let none : none_named name gs ≡ true = subst (λ (n : List ℕ). none_named n gs ≡ true) named (both _ _ apart).0 in
+    ap₂ (λ (k : List Key) ks. k ∷ ks) (sym (new_keys name d ms g keys named (rw is read))) (others_keep name d ms gs none)
+set_keys name d ms keys (g ∷ gs) (suc i) f apart here same read =
+    let parts = both _ (names_differ gs) apart in
+    let other = λ (named : g.name ≡ name). not_among g.name gs i f parts.0 here (same ∙ sym named) in
+    ap₂ (λ (k : List Key) ks. k ∷ ks) (keeps_keys name d ms g other) (set_keys name d ms keys gs i f parts.1 here same read)
+
+-- ---- the walk
+
+-- of all entries those that are left are not read yet, none of the others has a fault, and d has their keys
+pub record Walked (fields : List Field) (all left : List Entry) (d : List (List Key)) : Type 0 where
+  pub done : List Entry
+  pub parts : all ≡ done ++ left
+  pub fault : members_fault fields (members_view all) ≡ members_fault fields (members_view left)
+  pub keys : d ≡ map (keys_of (members_view done)) fields
+
+pub walk_begins : (fields : List Field) (all : List Entry) (d : List (List Key)) → d ≡ map (keys_of no_members) fields → Walked fields all all d
+walk_begins fields all d e = record { done = []; parts = refl; fault = refl; keys = e }
+
+-- the keys of a member stand at its field
+abbrev pub IsReadAt : List Field → List ℕ → Data → ℕ → List Key → Type 0
+IsReadAt fields name d i keys = option_and_then (λ f. value_keys f.kind d) (slice_get fields i) ≡ Some keys
+
+read_at : (fields : List Field) (name : List ℕ) (d : Data) (i : ℕ) (keys : List Key) (o : Option Field) → slice_get fields i ≡ o → IsReadAt fields name d i keys
+    → (f : Field) × (slice_get fields i ≡ Some f) × (value_keys f.kind d ≡ Some keys)
+read_at fields name d i keys None e h = let none : None ≡ Some keys = rw e at h in cc
+read_at fields name d i keys (Some f) e h = (f, e, rw e at h)
+
+pub walk_on : (fields : List Field) (all left : List Entry) (d : List (List Key)) (e : Entry) (i : ℕ) (keys : List Key)
+    → IsTrue (names_differ fields) → IsStrictlySortedBy string_cmp (names_of all) → Walked fields all (e ∷ left) d
+    → field_named (string_bytes e.0) fields ≡ Some i → IsReadAt fields (string_bytes e.0) (view e.1) i keys
+    → member_fault fields (string_bytes e.0) (view e.1) ≡ None → Walked fields all left (slice_set d i keys)
+walk_on fields all left d e i keys apart sorted w named read fine =
+    let at = read_at fields (string_bytes e.0) (view e.1) i keys _ refl read in
+    let last = put_last w.done e left (subst (λ es. IsStrictlySortedBy string_cmp (names_of es)) w.parts sorted) in
+    record {
+      done = w.done ++ e ∷ [];
+      parts = w.parts ∙ sym (append_assoc w.done (e ∷ []) left);
+      fault = w.fault ∙ rw fine refl;
+      keys = ap (λ ks. slice_set ks i keys) w.keys
+          ∙ set_keys (string_bytes e.0) (view e.1) (members_view w.done) keys fields i at.0 apart at.1 (name_of_field (string_bytes e.0) fields i at.0 named at.1) at.2
+          ∙ ap (λ ms. map (keys_of ms) fields) last;
+    }
+
+pub walk_fails : (fields : List Field) (all left : List Entry) (d : List (List Key)) (e : Entry) (x : DocFault) → Walked fields all (e ∷ left) d
+    → member_fault fields (string_bytes e.0) (view e.1) ≡ Some x → members_fault fields (members_view all) ≡ Some x
+walk_fails fields all left d e x w bad = w.fault ∙ rw bad refl
+
+pub walk_ends : (fields : List Field) (all : List Entry) (d : List (List Key)) → Walked fields all [] d
+    → (members_fault fields (members_view all) ≡ None) × (d ≡ map (keys_of (members_view all)) fields)
+walk_ends fields all d w =
+    let whole : all ≡ w.done = w.parts ∙ append-nil w.done in
+    (w.fault, w.keys ∙ ap (λ es. map (keys_of (members_view es)) fields) (sym whole))
+
+pub no_keys_more : (fs : List Field) (n : ℕ) → n < length fs → map (keys_of no_members) (take (n + 1) fs) ≡ map (keys_of no_members) (take n fs) ++ [] ∷ []
+no_keys_more fs n h = rw add-one (at_suc fs n h)
+  where
+    at_suc : (fs : List Field) (n : ℕ) → n < length fs → map (keys_of no_members) (take (suc n) fs) ≡ map (keys_of no_members) (take n fs) ++ [] ∷ []
+    at_suc [] n h = absurd (omega arith)
+    at_suc (f ∷ fs) zero h = refl
+    at_suc (f ∷ fs) (suc n) h = ap (λ ks. [] ∷ ks) (at_suc fs n (omega arith))

@@ -1,0 +1,25 @@
+use Rattle.std.proofs.Common.{◌≡◌, ℕ, List, ◌∷◌, Some, None, map, string_bytes, subst}
+use Rattle.std.proofs.lemmas.List.{map-set}
+use Rattle.serde_json.specs.View.{view}
+use Rattle.serde_json.proofs.Views.{Entry}
+use Rattle.field_schema.specs.Schema.{field_named}
+use Rattle.doc_model.specs.ReadDoc.{member_fault}
+use Rattle.doc_model.proofs.Members.{Walked, walk_on}
+use Rattle.doc_model.proofs.object.read_object.Goals as goal
+
+pub loop-name-preserved : goal.loop-name-preserved
+loop-name-preserved c =
+    let l = c.loop-name in
+    let fields = c.args.schema.now.list in
+    let all = c.args.members.now.entries in
+    let e : Entry = (c.in-Some.name.now, c.in-Some.value.now) in
+    let left = c.next.new.self in
+    let step : l.name-iterator ≡ e ∷ left = c.in-Some.ensures.steps in
+    let number = c.in_ok-number.number in
+    let keys = c.in_ok-number.keys in
+    let w = subst (λ (es : List Entry). Walked fields all es (map (λ v. v.items) l.fields.items)) step l.invariant in
+    let named : c.as_str.result.now ≡ string_bytes e.0 = c.as_str.ensures.value in
+    let place = subst (λ (n : List ℕ). field_named n fields ≡ Some number) named c.in_ok-number.ensures.place in
+    let fine = subst (λ (n : List ℕ). member_fault fields n (view e.1) ≡ None) named c.in_ok-number.ensures.fine in
+    let on = walk_on fields all left _ e number keys.items c.key_field-key.ensures.lawful.distinct c.iter-name-items.ensures.ordered w place c.in_ok-number.ensures.keys fine in
+    rw (map-set (λ v. v.items) l.fields.items number keys) on

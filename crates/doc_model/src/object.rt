@@ -1,0 +1,210 @@
+// The members of a document's object.
+ghost use Rattle.std.specs.Prelude.{◌≡◌, [], ⊤, List, Some, None, true, IfOk, IfErr, MatchResult, option_map, option_and_then, map, slice_get, Ok, Err};
+ghost use Rattle.std.specs.Bool.{MatchBool};
+ghost use Rattle.std.specs.Option.{option_map_or, option_copied};
+ghost use Rattle.serde_json.specs.Data.{no_members};
+ghost use Rattle.serde_json.specs.Errors.{IsMemory};
+ghost use Rattle.serde_json.specs.Find.{get_member, as_object};
+ghost use Rattle.serde_json.specs.Read.{read as read_text};
+ghost use Rattle.serde_json.specs.View.{view, members_view};
+ghost use Rattle.field_schema.specs.Schema.{field_named};
+ghost use Rattle.doc_model.specs.ReadDoc.{is_no_memory, value_keys as keys_of_value, too_long as first_too_long, str_length as length_of_str, keys_fault, member_fault, has_no_value as has_nothing, lacks_id as lacks_an_id, keys_of, object_doc};
+ghost use Rattle.doc_model.specs.declared.doc.DocFault.TheVariants.{NotObject, UnknownField, BadValue, ManyValues};
+
+use crate::doc::DocFault;
+use crate::value::{Misfit, value_keys};
+use field_schema::{Field, FieldNo, Key, NoMemory, Schema, Text};
+use serde_json::{Category, Error, Map, Value};
+use std::alloc::Global;
+
+// The longest value of a string field, in bytes.
+const MOST_BYTES: usize = 32766;
+
+// The members of the object that a text is.
+pub(crate) fn read_members(alloc: Global, body: &str) -> Result<Map<String, Value>, DocFault>
+    ensures { MatchResult result
+        (λ m. option_and_then as_object (read_text body.now) ≡ Some (members_view m.entries))
+        (λ e. MatchBool (is_no_memory e) ⊤ ((e ≡ NotObject) × (option_and_then as_object (read_text body.now) ≡ None))) }
+{
+    match Value::from_str(alloc, body) {
+        Ok(value) => object_members(value),
+        Err(error) => Err(text_fault(&error)),
+    }
+}
+
+// The members of an object.
+fn object_members(value: Value) -> Result<Map<String, Value>, DocFault>
+    ensures { MatchResult result (λ m. as_object (view value) ≡ Some (members_view m.entries))
+        (λ e. (e ≡ NotObject) × (as_object (view value) ≡ None)) }
+{
+    match value {
+        Value::Object(members) => Ok(members),
+        _other => Err(DocFault::NotObject),
+    }
+}
+
+// The fault of a text that did not read.
+fn text_fault(error: &Error) -> DocFault
+    ensures { MatchBool (is_no_memory result) ⊤ ((result ≡ NotObject) × ¬ IsMemory error.now) }
+{
+    if error.classify() == Category::Memory {
+        DocFault::NoMemory
+    } else {
+        DocFault::NotObject
+    }
+}
+
+// The keys of each field, or the first fault.
+pub(crate) fn read_object(
+    alloc: Global,
+    schema: &Schema,
+    members: &Map<String, Value>,
+) -> Result<Vec<Vec<Key>>, DocFault>
+    ensures { MatchResult result
+        (λ d. object_doc schema.now (members_view members.now.entries) ≡ Ok (map (λ v. v.items) d.items))
+        (λ e. MatchBool (is_no_memory e) ⊤ (object_doc schema.now (members_view members.now.entries) ≡ Err e)) }
+{
+    let key = schema.key_field();
+    if lacks_id(schema.get(key), members) {
+        return Err(DocFault::NoId);
+    }
+    let mut fields = no_keys(alloc, schema)?;
+    for (name, value) in members.iter() {
+        let (number, keys) = member_keys(alloc, schema, name.as_str(), value)?;
+        fields[number as usize] = keys;
+    }
+    Ok(fields)
+}
+
+// For each field no key.
+fn no_keys(alloc: Global, schema: &Schema) -> Result<Vec<Vec<Key>>, NoMemory>
+    ensures { IfOk result (λ d. map (λ v. v.items) d.items ≡ map (keys_of no_members) schema.now.list) }
+{
+    let mut empty = Vec::new(alloc);
+    for _number in 0..schema.len() {
+        empty.push(Vec::new(alloc))?;
+    }
+    Ok(empty)
+}
+
+// Whether the key's member is absent or has no value.
+fn lacks_id(key: Option<&Field>, members: &Map<String, Value>) -> bool
+    ensures { result ≡ option_map_or (λ f. option_map_or has_nothing (get_member f.name (members_view members.now.entries)) true) (option_copied key.entry) true }
+{
+    let Some(key) = key else {
+        return true;
+    };
+    match member(members, key.name.get()) {
+        Some(value) => has_no_value(value),
+        None => true,
+    }
+}
+
+fn member<'m>(members: &'m Map<String, Value>, name: &str) -> Option<&'m Value>
+    ensures { option_map (λ v. view v.now) result ≡ get_member name.now (members_view members.now.entries) }
+{
+    members.get(name)
+}
+
+// Null, or a list of nothing but nulls.
+fn has_no_value(value: &Value) -> bool
+    ensures { result ≡ has_nothing (view value.now) }
+{
+    match value {
+        Value::Null => true,
+        Value::Array(values) => values.iter().all(|value| value.is_null()),
+        _ => false,
+    }
+}
+
+// The place of a member's field, and its keys there.
+fn member_keys(
+    alloc: Global,
+    schema: &Schema,
+    name: &str,
+    value: &Value,
+) -> Result<(FieldNo, Vec<Key>), DocFault>
+    ensures place { IfOk result (λ p. field_named name.now schema.now.list ≡ Some p.0) }
+    ensures keys { IfOk result (λ p. option_and_then (λ f. keys_of_value f.kind (view value.now)) (slice_get schema.now.list p.0) ≡ Some p.1.items) }
+    ensures fine { IfOk result (λ p. member_fault schema.now.list name.now (view value.now) ≡ None) }
+    ensures fault { IfErr result (λ e. MatchBool (is_no_memory e) ⊤ (member_fault schema.now.list name.now (view value.now) ≡ Some e)) }
+{
+    let Some(number) = schema.field(name) else {
+        return Err(unknown_field(alloc, name));
+    };
+    let Some(field) = schema.get(number) else {
+        return Err(unknown_field(alloc, name));
+    };
+    let keys = field_keys(alloc, field, value)?;
+    Ok((number, keys))
+}
+
+// The fault of a member whose name no field has.
+fn unknown_field(alloc: Global, name: &str) -> DocFault
+    ensures { MatchBool (is_no_memory result) ⊤ (result ≡ UnknownField name.now) }
+{
+    match Text::from_str(alloc, name) {
+        Ok(name) => DocFault::UnknownField { name },
+        Err(_) => DocFault::NoMemory,
+    }
+}
+
+// The keys of a member in its field.
+fn field_keys(alloc: Global, field: &Field, value: &Value) -> Result<Vec<Key>, DocFault>
+    ensures keys { IfOk result (λ keys. keys_of_value field.now.kind (view value.now) ≡ Some keys.items) }
+    ensures fine { IfOk result (λ keys. keys_fault field.now (keys_of_value field.now.kind (view value.now)) ≡ None) }
+    ensures fault { IfErr result (λ e. MatchBool (is_no_memory e) ⊤ (keys_fault field.now (keys_of_value field.now.kind (view value.now)) ≡ Some e)) }
+{
+    let keys = match value_keys(alloc, field.kind, value) {
+        Ok(keys) => keys,
+        Err(Misfit::WrongType) => return Err(bad_value(alloc, field)),
+        Err(Misfit::NoMemory) => return Err(DocFault::NoMemory),
+    };
+    if !field.multi && keys.len() > 1 {
+        return Err(many_values(alloc, field));
+    }
+    match too_long(keys.as_slice()) {
+        Some(bytes) => Err(DocFault::TooLong { bytes }),
+        None => Ok(keys),
+    }
+}
+
+fn bad_value(alloc: Global, field: &Field) -> DocFault
+    ensures { MatchBool (is_no_memory result) ⊤ (result ≡ BadValue field.now.name) }
+{
+    match field.name.copy(alloc) {
+        Ok(field) => DocFault::BadValue { field },
+        Err(_) => DocFault::NoMemory,
+    }
+}
+
+fn many_values(alloc: Global, field: &Field) -> DocFault
+    ensures { MatchBool (is_no_memory result) ⊤ (result ≡ ManyValues field.now.name) }
+{
+    match field.name.copy(alloc) {
+        Ok(field) => DocFault::ManyValues { field },
+        Err(_) => DocFault::NoMemory,
+    }
+}
+
+// The length of the first value of a string field that is too long.
+fn too_long(keys: &[Key]) -> Option<usize>
+    ensures { result ≡ first_too_long keys.now }
+{
+    for key in keys {
+        let bytes = str_length(key);
+        if bytes > MOST_BYTES {
+            return Some(bytes);
+        }
+    }
+    None
+}
+
+fn str_length(key: &Key) -> usize
+    ensures { result ≡ length_of_str key.now }
+{
+    match key {
+        Key::Str(text) => text.get().len(),
+        _ => 0,
+    }
+}
