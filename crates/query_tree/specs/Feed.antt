@@ -13,16 +13,20 @@ use Rattle.query_tree.specs.declared.sort.SortBy.{SortBy}
 use Rattle.query_tree.specs.declared.sort.SortBy.TheVariants.{Field, DocId}
 use Rattle.query_tree.specs.declared.sort.SortKey.{SortKey}
 
+-- whether a field is compared, then which
 abbrev pub sort_by_fed : SortBy → HashWrites
 sort_by_fed (Field f) = fed.u8 0 ++ fed.u32 f
 sort_by_fed DocId = fed.u8 1
 
+-- what is compared, then the direction
 abbrev pub sort_key_fed : SortKey → HashWrites
 sort_key_fed k = sort_by_fed k.by ++ fed.bool k.down
 
+-- the number of keys, then each key
 abbrev pub sort_fed : List SortKey → HashWrites
 sort_fed = fed.slice sort_key_fed
 
+-- what a key feeds, as the derived impl has it
 abbrev pub key_fed : Key → HashWrites
 key_fed k = (key_hash.ghosts).hash_input k
 
@@ -41,5 +45,6 @@ layer_fed (node.Prefix field p) = fed.u8 4 ++ fed.u32 field ++ fed.str p
 layer_fed (node.Range field a b) = fed.u8 5 ++ fed.u32 field ++ end_fed a ++ end_fed b
 layer_fed (node.Bool must should not_) = fed.u8 6 ++ fed.slice (λ part. part) must ++ fed.slice (λ part. part) should ++ fed.slice (λ part. part) not_
 
+-- each layer with what its parts feed
 abbrev pub query_fed : Query → HashWrites
 query_fed = fold-Query HashWrites layer_fed

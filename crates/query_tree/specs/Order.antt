@@ -123,22 +123,28 @@ query_cmp = fold-Query (Query → Ordering) (λ layer b. layer_cmp (λ compare. 
 abbrev pub queries_cmp : List Query → List Query → Ordering
 queries_cmp = slice_cmp query_cmp
 
--- ---- equality: the order does not tell the two apart
+-- ---- equality
 
+-- things to sort by that the order does not tell apart
 abbrev pub sort_by_eq : SortBy → SortBy → Bool
 sort_by_eq a b = is_eq (sort_by_cmp a b)
 
+-- keys of a sort that the order does not tell apart
 abbrev pub sort_key_eq : SortKey → SortKey → Bool
 sort_key_eq a b = is_eq (sort_key_cmp a b)
 
+-- sorts that the order does not tell apart
 abbrev pub sort_eq : List SortKey → List SortKey → Bool
 sort_eq a b = is_eq (sort_cmp a b)
 
+-- ends that the order does not tell apart
 abbrev pub end_eq : End → End → Bool
 end_eq a b = is_eq (end_cmp a b)
 
+-- queries that the order does not tell apart
 abbrev pub query_eq : Query → Query → Bool
 query_eq a b = is_eq (query_cmp a b)
 
+-- lists of queries that the order does not tell apart
 abbrev pub queries_eq : List Query → List Query → Bool
 queries_eq a b = is_eq (queries_cmp a b)

@@ -62,6 +62,7 @@ parts_of-map f (node.Bool must should not_) = refl
 
 -- ---- the order by layers
 
+-- one layer, given how its parts compare with a query
 abbrev order_step : Query-F (Query → Ordering) → Query → Ordering
 order_step layer b = layer_cmp (λ (compare : Query → Ordering) (q : Query). compare q) layer (out-Query b)
 
@@ -92,19 +93,24 @@ order_to_total : (n : ℕ) → IsTotalOrder (order_to n)
 order_to_total zero = record { antisymm = λ x y. refl; trans = λ x y z p q. p; congr = λ x y z p. refl }
 order_to_total (suc n) = on_total out-Query (layer_total (order_to_total n))
 
+-- the largest number, or 0
 abbrev most : List ℕ → ℕ
 most [] = 0
 most (n ∷ ns) = max n (most ns)
 
+-- one level more than the deepest part
 abbrev depth_step : Query-F ℕ → ℕ
 depth_step x = suc (most (map most (parts_of x)))
 
+-- how many layers lie inside one another
 abbrev depth : Query → ℕ
 depth = fold-Query ℕ depth_step
 
+-- looking at as many layers as the query has settles the order
 abbrev Settles : Query → Type 0
 Settles a = (n : ℕ) (b : Query) → depth a ≤ n → query_cmp a b ≡ order_to n a b
 
+-- a query with that proof
 abbrev Settled : Type 0
 Settled = (q : Query) × Settles q
 
@@ -173,10 +179,12 @@ query_cmp_total = record { antisymm = query_antisymm; trans = query_trans; congr
 
 -- ---- queries that the order does not tell apart are one
 
+-- the first item, or d
 abbrev first_or : {A : Type 0} → A → List A → A
 first_or d [] = d
 first_or d (x ∷ xs) = x
 
+-- all but the first item
 abbrev rest : {A : Type 0} → List A → List A
 rest [] = []
 rest (x ∷ xs) = xs
@@ -229,9 +237,11 @@ module _ {A B : Type 0} {R : A → B → Ordering} (f : A → B) (same : (a : A)
         parts = items_same (map f) (items_same f same) (parts_of x) (parts_of y) g.1;
       })
 
+-- what ties with the query is the query
 abbrev IsTold : Query → Type 0
 IsTold a = (b : Query) → query_cmp a b ≡ Equal → a ≡ b
 
+-- a query with that proof
 abbrev Told : Type 0
 Told = (q : Query) × IsTold q
 

@@ -7,7 +7,8 @@ pub fn all()
     ensures { AllMatches }
 {}
 
-/// `-cat:x` matches the documents without `cat` where it is the whole query, and adds none to another query's.
+/// `-cat:x` matches the documents without `cat` where it is the whole query, as the guide's Standard Query Parser
+/// has it, and adds none where it stands inside another query.
 pub fn negative()
     ensures top { TopNegativeMatches }
     ensures nested { NestedNegativeMatchesNothing }
