@@ -6,7 +6,9 @@ use crate::status::Status;
 use client_runner::{Output, output_text, run_script};
 use field_schema::Text;
 use rt_edge::Gate;
-use script_form::{ConfigRefusal, Config, Script, ScriptRefusal, read_config, read_script, too_large};
+use script_form::{
+    Config, ConfigRefusal, Script, ScriptRefusal, read_config, read_script, too_large,
+};
 use std::alloc::Global;
 
 /// The configuration and the script of an input, or the first status that refuses it.
@@ -19,13 +21,19 @@ fn read_input(alloc: Global, bytes: &[u8]) -> Result<(Config, Script), Status>
     let (config, begin) = match read_config(alloc, bytes) {
         Ok(read) => read,
         Err(ConfigRefusal::Fault(fault)) => {
-            return Err(Status::BadConfig { at: fault.at, name: fault.name });
+            return Err(Status::BadConfig {
+                at: fault.at,
+                name: fault.name,
+            });
         }
         Err(ConfigRefusal::NoMemory) => return Err(Status::NoMemory),
     };
     match read_script(alloc, &config.schema, &bytes[begin..]) {
         Ok(script) => Ok((config, script)),
-        Err(ScriptRefusal::Fault(fault)) => Err(Status::BadLine { line: fault.line, name: fault.name }),
+        Err(ScriptRefusal::Fault(fault)) => Err(Status::BadLine {
+            line: fault.line,
+            name: fault.name,
+        }),
         Err(ScriptRefusal::NoMemory) => Err(Status::NoMemory),
     }
 }

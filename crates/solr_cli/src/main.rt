@@ -7,12 +7,12 @@ mod status;
 mod top;
 mod writing;
 
-pub use status::{Status, status_line};
-pub use top::{Ran, run_top};
-
 use rt_edge::{OpenGate, StdSink, StdSource};
+pub use status::{Status, status_line};
 use std::env;
+use std::env::Env;
 use std::process::ExitCode;
+pub use top::{Ran, run_top};
 
 /// The words after the program's name; none of them where they are no text.
 fn words_of(rt: &(impl Env + AllocGlobal)) -> Vec<String> {

@@ -1,0 +1,13 @@
+use Rattle.std.proofs.Common.{◌≡◌, ◌≤◌, ◌++◌, ℕ, List, length, take}
+use Rattle.std.specs.Io.KnownBytes.{Appends}
+use Rattle.solr_cli.proofs.writing.write_all.Given as goal
+
+-- a front was written, and the rest is left
+abbrev pub invariant-loop-rest : goal.invariant-loop-rest
+invariant-loop-rest g l = record {
+  later : g.K.Sink.faults l.initial.out ≤ g.K.Sink.faults l.out;
+  front : (done : List ℕ) × (l.text ≡ done ++ l.rest) × Appends (g.K.Sink.held l.initial.out) (g.K.Sink.held l.out) done;
+}
+
+abbrev pub decreases-loop-rest : goal.decreases-loop-rest
+decreases-loop-rest g l = length l.rest
