@@ -35,10 +35,10 @@ header status = member (codes "responseHeader") (object (member (codes "status")
 abbrev pub found_object : Data → ℕ → ℕ → Data
 found_object docs n start =
     object (member (codes "response") (object (
-      member (codes "docs") docs (
-      member (codes "numFound") (count n) (
-      member (codes "numFoundExact") (boolean true) (
-      member (codes "start") (count start) no_members))))) (header 0))
+    member (codes "docs") docs (
+    member (codes "numFound") (count n) (
+    member (codes "numFoundExact") (boolean true) (
+    member (codes "start") (count start) no_members))))) (header 0))
 
 abbrev pub found_data : Fields → Asked → Answer → Data
 found_data s asked a = found_object (docs_items s asked.fields a.docs) a.found asked.start

@@ -13,16 +13,16 @@ use Rattle.solr_cli.specs.declared.status.Status.{Status}
 use Rattle.solr_cli.specs.declared.status.Status.TheVariants as status
 
 -- the input lies within the limits, and reads to this configuration and this script
-pub record ReadsTo (input : List ℕ) (config : Config) (script : List Line) : Type 0 where
+pub record ReadsTo (input : List ℕ) (c : Config) (ls : List Line) : Type 0 where
   pub within : too_large input ≡ false
-  pub config : config_of input ≡ Some config
-  pub script : script_of config.schema (script_lines input) ≡ Ok script
+  pub config : config_of input ≡ Some c
+  pub script : script_of c.schema (script_lines input) ≡ Ok ls
 
 -- the script's first fault
-pub record IsBadLine (input : List ℕ) (config : Config) (fault : LineFault) : Type 0 where
+pub record IsBadLine (input : List ℕ) (c : Config) (fault : LineFault) : Type 0 where
   pub within : too_large input ≡ false
-  pub config : config_of input ≡ Some config
-  pub script : script_of config.schema (script_lines input) ≡ Err fault
+  pub config : config_of input ≡ Some c
+  pub script : script_of c.schema (script_lines input) ≡ Err fault
 
 -- why an input is refused: each status has its cause in the bytes, and want of memory is free
 abbrev pub IsRefusal : List ℕ → Status → Type 0

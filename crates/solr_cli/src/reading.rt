@@ -62,7 +62,8 @@ pub(crate) fn read_all<S: Source>(alloc: Global, input: &mut S) -> Result<Vec<u8
 {
     let mut piece = make_piece(alloc)?;
     let mut bytes = Vec::new(alloc);
-    for _turn in 0..MOST_INPUT + 1 {
+    for turn in 0..MOST_INPUT + 1 {
+        let _ = turn;
         let room = (MOST_INPUT + 1 - bytes.len()).min(piece.len());
         if room == 0 || read_more(input, &mut bytes, &mut piece[..room])? == 0 {
             return Ok(bytes);
