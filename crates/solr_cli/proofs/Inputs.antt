@@ -76,11 +76,12 @@ one_more line (Err fault) script n h each = absurd (cc)
 
 as_many_from : (n : ℕ) (s : Fields) (ls : List (List ℕ)) (script : List Line) → lines_from n s ls ≡ Ok script → length script ≡ length ls
 as_many_from n s [] script h = let same : [] ≡ script = cc in ap length (sym same)
-as_many_from n s (line ∷ others) script h = by_what (what_of s line) h
+as_many_from n s (line ∷ others) script h = by_what (as_many_from (n + 1) s others) (what_of s line) h
   where
-    by_what : (w : Option What) → option_map_or (λ x. before_others (record { number = n; what = x }) (lines_from (n + 1) s others)) w (Err (record { line = n; name = NotBuilt })) ≡ Ok script → length script ≡ suc (length others)
-    by_what None e = absurd (cc)
-    by_what (Some x) e = one_more (record { number = n; what = x }) (lines_from (n + 1) s others) script (length others) e ?
+    by_what : ((r : List Line) → lines_from (n + 1) s others ≡ Ok r → length r ≡ length others) → (w : Option What) →
+        option_map_or (λ x. before_others (record { number = n; what = x }) (lines_from (n + 1) s others)) w (Err (record { line = n; name = NotBuilt })) ≡ Ok script → length script ≡ suc (length others)
+    by_what each None e = absurd (cc)
+    by_what each (Some x) e = one_more (record { number = n; what = x }) (lines_from (n + 1) s others) script (length others) e each
 
 -- a script has as many lines as its text
 pub as_many : (s : Fields) (ls : List (List ℕ)) (script : List Line) → script_of s ls ≡ Ok script → length script ≡ length ls

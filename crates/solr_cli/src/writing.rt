@@ -14,7 +14,7 @@ fn write_all<K: Sink>(out: &mut K, text: &[u8]) -> Result<(), Failed>
     let mut rest = text;
     while !rest.is_empty() {
         let count = out.write(rest)?;
-        rest = &rest[count..];
+        rest = rest.split_at(count).1;
     }
     Ok(())
 }
