@@ -1,0 +1,253 @@
+-- Small scripts, and outputs of them on which the laws are tried.
+use Rattle.std.specs.Prelude.{◌≡◌, ◌≢◌, ℕ, List, [], ◌∷◌, Bool, true, false, Option, Some, None, codes}
+use Rattle.std.specs.List.{AllByRecursion}
+use Rattle.field_schema.specs.Schema.{Fields, string_field}
+use Rattle.field_schema.specs.declared.key.Key.TheVariants as key
+use Rattle.doc_model.specs.Document.{Document}
+use Rattle.query_tree.specs.declared.query.Query.{Term}
+use Rattle.search_model.specs.Answer.{Asked, answer}
+use Rattle.search_model.specs.Reply.{Outcome, found, accepted, refused, too_many, reply_text, code_of, found_of, docs_of}
+use Rattle.script_form.specs.ReadConfig.{default_config}
+use Rattle.script_form.specs.Requests.{first_ten}
+use Rattle.script_form.specs.declared.config.Config.{Config}
+use Rattle.script_form.specs.declared.script.Line.{Line}
+use Rattle.script_form.specs.declared.script.What.{What}
+use Rattle.script_form.specs.declared.script.What.TheVariants as what
+use Rattle.run_laws.specs.Rows.{Verb, add, delete, query, commit, RequestRow, SearcherRow, Output}
+use Rattle.run_laws.specs.Requests.{Told, requests_of, tell, Each}
+use Rattle.run_laws.specs.Lawful.{AnswersEach, IsOneHistory, KeepsOrder, IsAnswered, ServesUnlessOlder, CountsTickets, TellsWarmings}
+
+-- ---- the laws one by one
+
+pub data Law : Type 0 where
+  one_row_each : Law
+  one_history : Law
+  clients_orders : Law
+  answers : Law
+  greatest_serves : Law
+  tickets : Law
+  warmings : Law
+
+-- the requests of a script with the rows of an output
+abbrev pub told_of : List Line → Output → List Told
+told_of script o = tell (requests_of script) o.requests
+
+-- the output keeps one law
+abbrev pub Keeps : Config → List Line → Output → Law → Type 0
+Keeps c script o one_row_each = AnswersEach c.schema script o
+Keeps c script o one_history = IsOneHistory (told_of script o) o
+Keeps c script o clients_orders = Each (KeepsOrder o) [] (told_of script o)
+Keeps c script o answers = Each (IsAnswered c (told_of script o) o) [] (told_of script o)
+Keeps c script o greatest_serves = AllByRecursion (ServesUnlessOlder o) o.searchers
+Keeps c script o tickets = AllByRecursion (CountsTickets (told_of script o) o) o.searchers
+Keeps c script o warmings = TellsWarmings o o.searchers
+
+-- it breaks this law and keeps every other
+pub record BreaksAlone (c : Config) (script : List Line) (o : Output) (law : Law) : Type 0 where
+  pub breaks : Keeps c script o law → ⊥
+  pub keeps_others : (other : Law) → other ≢ law → Keeps c script o other
+
+-- ---- the configuration and the scripts
+
+-- two fields of whole texts, of which the first is the unique key
+abbrev pub two_fields : Fields
+two_fields = record { list = string_field (codes "id") ∷ string_field (codes "cat") ∷ []; key = 0 }
+
+-- at most one searcher is warming
+abbrev pub one_warming : Config
+one_warming = default_config two_fields
+
+-- at most two searchers are warming
+abbrev pub two_warming : Config
+two_warming = record one_warming { max_warming = 2 }
+
+abbrev pub add_a : List ℕ
+add_a = codes "{\"id\":\"a\",\"cat\":\"x\"}"
+
+abbrev pub find_x : List ℕ
+find_x = codes "q=cat:x"
+
+-- what the body of the add reads to
+abbrev pub document_a : Document
+document_a = (key.Str (codes "a") ∷ []) ∷ (key.Str (codes "x") ∷ []) ∷ []
+
+-- what the body of the query asks for
+abbrev pub asked_x : Asked
+asked_x = first_ten (Term 1 (key.Str (codes "x")))
+
+abbrev pub line : ℕ → What → Line
+line number request = record { number = number; what = request }
+
+-- one client adds, commits and queries
+abbrev pub add_commit_query : List Line
+add_commit_query = line 1 (what.Add 1 add_a) ∷ line 2 (what.Commit 1 []) ∷ line 3 (what.Query 1 find_x) ∷ []
+
+-- one client adds twice
+abbrev pub two_adds : List Line
+two_adds = line 1 (what.Add 1 add_a) ∷ line 2 (what.Add 1 add_a) ∷ []
+
+-- two clients add once each
+abbrev pub adds_of_two : List Line
+adds_of_two = line 1 (what.Add 1 add_a) ∷ line 2 (what.Add 2 add_a) ∷ []
+
+-- an add of a body that is no document
+abbrev pub bad_add : List Line
+bad_add = line 1 (what.Add 1 []) ∷ []
+
+abbrev pub one_commit : List Line
+one_commit = line 1 (what.Commit 1 []) ∷ []
+
+-- two clients commit once each
+abbrev pub two_commits : List Line
+two_commits = line 1 (what.Commit 1 []) ∷ line 2 (what.Commit 2 []) ∷ []
+
+abbrev pub one_query : List Line
+one_query = line 1 (what.Query 1 find_x) ∷ []
+
+-- ---- rows
+
+-- a row whose reply and numbers are those of an outcome
+abbrev pub row : ℕ → ℕ → Verb → Option ℕ → Option ℕ → Option ℕ → Outcome → RequestRow
+row client number verb place generation ticket o = record {
+  client = client;
+  line = number;
+  verb = verb;
+  place = place;
+  generation = generation;
+  ticket = ticket;
+  reply = reply_text two_fields o;
+  code = code_of o;
+  found = found_of o;
+  docs = docs_of o;
+}
+
+abbrev pub added_at : ℕ → ℕ → ℕ → RequestRow
+added_at client number place = row client number add (Some place) None None accepted
+
+abbrev pub committed_at : ℕ → ℕ → ℕ → ℕ → RequestRow
+committed_at client number place generation = row client number commit (Some place) (Some generation) None accepted
+
+-- client 1's query, served from a view
+abbrev pub served : ℕ → ℕ → ℕ → List Document → RequestRow
+served number generation ticket view = row 1 number query None (Some generation) (Some ticket) (found asked_x (answer view asked_x))
+
+-- the first searcher, acquired so often
+abbrev pub first : ℕ → SearcherRow
+first acquired = record { generation = 1; opened = 0; ended = 1; registered = true; acquired = acquired; from = None }
+
+-- a searcher's generation, the places of its opening and its end, whether it was registered, how often it was acquired, and whence it was warmed
+abbrev pub searcher : ℕ → ℕ → ℕ → Bool → ℕ → Option (ℕ × ℕ) → SearcherRow
+searcher generation opened ended registered acquired from = record {
+  generation = generation;
+  opened = opened;
+  ended = ended;
+  registered = registered;
+  acquired = acquired;
+  from = from;
+}
+
+-- ---- the worked output
+
+abbrev pub worked_rows : List RequestRow
+worked_rows = added_at 1 1 2 ∷ committed_at 1 2 3 2 ∷ served 3 2 0 (document_a ∷ []) ∷ []
+
+-- one document is added, committed and found
+abbrev pub worked : Output
+worked = record { requests = worked_rows; searchers = first 1 ∷ searcher 2 3 4 true 1 (Some (1, 0)) ∷ [] }
+
+-- ---- outputs that break one law
+
+-- the query has no row
+abbrev pub row_is_missing : Output
+row_is_missing = record {
+  requests = added_at 1 1 2 ∷ committed_at 1 2 3 2 ∷ [];
+  searchers = first 1 ∷ searcher 2 3 4 true 0 (Some (1, 0)) ∷ [];
+}
+
+-- two adds have place 2
+abbrev pub place_is_shared : Output
+place_is_shared = record { requests = added_at 1 1 2 ∷ added_at 2 2 2 ∷ []; searchers = first 0 ∷ [] }
+
+-- generation 3 was opened before generation 2
+abbrev pub openings_descend : Output
+openings_descend = record {
+  requests = committed_at 1 1 3 2 ∷ committed_at 2 2 2 3 ∷ [];
+  searchers = first 2 ∷ searcher 2 3 5 false 0 (Some (1, 0)) ∷ searcher 3 2 4 true 0 (Some (1, 1)) ∷ [];
+}
+
+-- the client's second add has the lower place
+abbrev pub places_are_swapped : Output
+places_are_swapped = record { requests = added_at 1 1 3 ∷ added_at 1 2 2 ∷ []; searchers = first 0 ∷ [] }
+
+-- an accepted add has no place
+abbrev pub add_has_no_place : Output
+add_has_no_place = record { requests = row 1 1 add None None None accepted ∷ added_at 1 2 2 ∷ []; searchers = first 0 ∷ [] }
+
+-- an add is accepted though its body is no document
+abbrev pub bad_add_is_accepted : Output
+bad_add_is_accepted = record { requests = added_at 1 1 2 ∷ []; searchers = first 0 ∷ [] }
+
+-- a searcher is superseded though none greater is current
+abbrev pub superseded_by_none : Output
+superseded_by_none = record {
+  requests = committed_at 1 1 2 2 ∷ [];
+  searchers = first 1 ∷ searcher 2 2 3 false 0 (Some (1, 0)) ∷ [];
+}
+
+-- a searcher is registered though a greater one is current
+abbrev pub registered_too_late : Output
+registered_too_late = record {
+  requests = committed_at 1 1 2 2 ∷ committed_at 2 2 3 3 ∷ [];
+  searchers = first 2 ∷ searcher 2 2 5 true 0 (Some (1, 0)) ∷ searcher 3 3 4 true 0 (Some (1, 1)) ∷ [];
+}
+
+-- a commit is refused for too many warming searchers though none is warming
+abbrev pub refused_without_cause : Output
+refused_without_cause = record { requests = row 1 1 commit (Some 2) None None (too_many []) ∷ []; searchers = first 0 ∷ [] }
+
+-- a commit tells a generation that has no searcher
+abbrev pub opened_nothing : Output
+opened_nothing = record { requests = committed_at 1 1 2 2 ∷ []; searchers = first 0 ∷ [] }
+
+-- two searchers are warming where only one may be
+abbrev pub warms_too_many : Output
+warms_too_many = record {
+  requests = committed_at 1 1 2 2 ∷ committed_at 2 2 3 3 ∷ [];
+  searchers = first 2 ∷ searcher 2 2 4 true 0 (Some (1, 0)) ∷ searcher 3 3 5 true 0 (Some (1, 1)) ∷ [];
+}
+
+-- a query tells a generation that has no searcher
+abbrev pub served_from_none : Output
+served_from_none = record { requests = served 1 2 0 [] ∷ []; searchers = first 0 ∷ [] }
+
+-- a query tells the second generation and the reply of the first
+abbrev pub reply_of_another_view : Output
+reply_of_another_view = record {
+  requests = added_at 1 1 2 ∷ committed_at 1 2 3 2 ∷ served 3 2 0 [] ∷ [];
+  searchers = first 1 ∷ searcher 2 3 4 true 1 (Some (1, 0)) ∷ [];
+}
+
+-- a query is served from the generation before that for which its client has waited
+abbrev pub served_from_before : Output
+served_from_before = record {
+  requests = added_at 1 1 2 ∷ committed_at 1 2 3 2 ∷ served 3 1 1 [] ∷ [];
+  searchers = first 2 ∷ searcher 2 3 4 true 0 (Some (1, 0)) ∷ [];
+}
+
+-- the first ticket is 1
+abbrev pub ticket_is_skipped : Output
+ticket_is_skipped = record {
+  requests = added_at 1 1 2 ∷ committed_at 1 2 3 2 ∷ served 3 2 1 (document_a ∷ []) ∷ [];
+  searchers = first 1 ∷ searcher 2 3 4 true 1 (Some (1, 0)) ∷ [];
+}
+
+-- the second searcher was warmed from none
+abbrev pub warmed_from_none : Output
+warmed_from_none = record { requests = worked_rows; searchers = first 0 ∷ searcher 2 3 4 true 1 None ∷ [] }
+
+-- the second searcher was warmed from itself
+abbrev pub warmed_from_itself : Output
+warmed_from_itself = record {
+  requests = added_at 1 1 2 ∷ committed_at 1 2 3 2 ∷ served 3 2 1 (document_a ∷ []) ∷ [];
+  searchers = first 0 ∷ searcher 2 3 4 true 2 (Some (2, 0)) ∷ [];
+}
