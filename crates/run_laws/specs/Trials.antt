@@ -90,6 +90,10 @@ two_adds = line 1 (what.Add 1 add_a) ∷ line 2 (what.Add 1 add_a) ∷ []
 abbrev pub adds_of_two : List Line
 adds_of_two = line 1 (what.Add 1 add_a) ∷ line 2 (what.Add 2 add_a) ∷ []
 
+-- two clients add once each, in two phases
+abbrev pub adds_in_phases : List Line
+adds_in_phases = line 1 (what.Add 1 add_a) ∷ line 2 what.PhaseEnd ∷ line 3 (what.Add 2 add_a) ∷ []
+
 -- an add of a body that is no document
 abbrev pub bad_add : List Line
 bad_add = line 1 (what.Add 1 []) ∷ []
@@ -100,6 +104,10 @@ one_commit = line 1 (what.Commit 1 []) ∷ []
 -- two clients commit once each
 abbrev pub two_commits : List Line
 two_commits = line 1 (what.Commit 1 []) ∷ line 2 (what.Commit 2 []) ∷ []
+
+-- a client queries twice, and another commits
+abbrev pub queries_and_commit : List Line
+queries_and_commit = line 1 (what.Query 1 find_x) ∷ line 2 (what.Query 1 find_x) ∷ line 3 (what.Commit 2 []) ∷ []
 
 abbrev pub one_query : List Line
 one_query = line 1 (what.Query 1 find_x) ∷ []
@@ -148,12 +156,16 @@ searcher generation opened ended registered acquired from = record {
 
 -- ---- the worked output
 
-abbrev pub worked_rows : List RequestRow
-worked_rows = added_at 1 1 2 ∷ committed_at 1 2 3 2 ∷ served 3 2 0 (document_a ∷ []) ∷ []
+-- A document is added, committed and found. How often the two searchers were acquired, whence the second was warmed, and the query's ticket are open.
+abbrev pub found_once : ℕ → ℕ → Option (ℕ × ℕ) → ℕ → Output
+found_once acquired acquired_then from ticket = record {
+  requests = added_at 1 1 2 ∷ committed_at 1 2 3 2 ∷ served 3 2 ticket (document_a ∷ []) ∷ [];
+  searchers = first acquired ∷ searcher 2 3 4 true acquired_then from ∷ [];
+}
 
--- one document is added, committed and found
+-- the second searcher is warmed from the first, and serves the query
 abbrev pub worked : Output
-worked = record { requests = worked_rows; searchers = first 1 ∷ searcher 2 3 4 true 1 (Some (1, 0)) ∷ [] }
+worked = found_once 1 1 (Some (1, 0)) 0
 
 -- ---- outputs that break one law
 
@@ -178,6 +190,10 @@ openings_descend = record {
 -- the client's second add has the lower place
 abbrev pub places_are_swapped : Output
 places_are_swapped = record { requests = added_at 1 1 3 ∷ added_at 1 2 2 ∷ []; searchers = first 0 ∷ [] }
+
+-- the later phase's add has the lower place
+abbrev pub phases_are_swapped : Output
+phases_are_swapped = record { requests = added_at 1 1 3 ∷ added_at 2 3 2 ∷ []; searchers = first 0 ∷ [] }
 
 -- an accepted add has no place
 abbrev pub add_has_no_place : Output
@@ -234,20 +250,21 @@ served_from_before = record {
   searchers = first 2 ∷ searcher 2 3 4 true 0 (Some (1, 0)) ∷ [];
 }
 
+-- a query is served from the generation before that of the client's last query
+abbrev pub served_backwards : Output
+served_backwards = record {
+  requests = served 1 2 0 [] ∷ served 2 1 1 [] ∷ committed_at 2 3 2 2 ∷ [];
+  searchers = first 2 ∷ searcher 2 2 3 true 1 (Some (1, 0)) ∷ [];
+}
+
 -- the first ticket is 1
 abbrev pub ticket_is_skipped : Output
-ticket_is_skipped = record {
-  requests = added_at 1 1 2 ∷ committed_at 1 2 3 2 ∷ served 3 2 1 (document_a ∷ []) ∷ [];
-  searchers = first 1 ∷ searcher 2 3 4 true 1 (Some (1, 0)) ∷ [];
-}
+ticket_is_skipped = found_once 1 1 (Some (1, 0)) 1
 
 -- the second searcher was warmed from none
 abbrev pub warmed_from_none : Output
-warmed_from_none = record { requests = worked_rows; searchers = first 0 ∷ searcher 2 3 4 true 1 None ∷ [] }
+warmed_from_none = found_once 0 1 None 0
 
 -- the second searcher was warmed from itself
 abbrev pub warmed_from_itself : Output
-warmed_from_itself = record {
-  requests = added_at 1 1 2 ∷ committed_at 1 2 3 2 ∷ served 3 2 1 (document_a ∷ []) ∷ [];
-  searchers = first 0 ∷ searcher 2 3 4 true 2 (Some (2, 0)) ∷ [];
-}
+warmed_from_itself = found_once 0 2 (Some (2, 0)) 1

@@ -2,42 +2,49 @@
 //! function does nothing: its clause is what the trial shows.
 ghost use Rattle.std.specs.Prelude.{◌≡◌};
 ghost use Rattle.run_laws.specs.Lawful.{Lawful};
-ghost use Rattle.run_laws.specs.Trials.{Keeps, one_row_each, one_history, clients_orders, answers, greatest_serves, tickets, warmings, one_warming, two_warming, add_commit_query, two_commits, worked, adds_of_two, one_commit, two_adds, bad_add, one_query};
+ghost use Rattle.run_laws.specs.Trials.{BreaksAlone, one_row_each, one_history, clients_orders, answers, greatest_serves, tickets, warmings, one_warming, two_warming, add_commit_query, two_adds, adds_of_two, adds_in_phases, bad_add, one_commit, two_commits, one_query, queries_and_commit, worked};
 ghost use Rattle.run_laws.specs.Trials as trial;
 
 /// Places are taken once: two adds may not tell the same.
 pub fn shared_place_is_unlawful()
-    ensures { Lawful one_warming adds_of_two trial.place_is_shared → ⊥ }
+    ensures unlawful { Lawful one_warming adds_of_two trial.place_is_shared → ⊥ }
+    ensures alone { BreaksAlone one_warming adds_of_two trial.place_is_shared one_history }
 {}
 
 /// Tickets count from 0.
 pub fn skipped_ticket_is_unlawful()
-    ensures { Lawful one_warming add_commit_query trial.ticket_is_skipped → ⊥ }
+    ensures unlawful { Lawful one_warming add_commit_query trial.ticket_is_skipped → ⊥ }
+    ensures alone { BreaksAlone one_warming add_commit_query trial.ticket_is_skipped tickets }
 {}
 
 /// A searcher above the first is warmed from one.
 pub fn warming_from_none_is_unlawful()
-    ensures { Lawful one_warming add_commit_query trial.warmed_from_none → ⊥ }
+    ensures unlawful { Lawful one_warming add_commit_query trial.warmed_from_none → ⊥ }
+    ensures alone { BreaksAlone one_warming add_commit_query trial.warmed_from_none warmings }
 {}
 
 /// No searcher is warmed from itself, since it is not current yet.
 pub fn warming_from_itself_is_unlawful()
-    ensures { Lawful one_warming add_commit_query trial.warmed_from_itself → ⊥ }
+    ensures unlawful { Lawful one_warming add_commit_query trial.warmed_from_itself → ⊥ }
+    ensures alone { BreaksAlone one_warming add_commit_query trial.warmed_from_itself warmings }
 {}
 
 /// Each request has a row.
 pub fn missing_row_is_unlawful()
-    ensures { Lawful one_warming add_commit_query trial.row_is_missing → ⊥ }
+    ensures unlawful { Lawful one_warming add_commit_query trial.row_is_missing → ⊥ }
+    ensures alone { BreaksAlone one_warming add_commit_query trial.row_is_missing one_row_each }
 {}
 
 /// A searcher is superseded by none but a greater one.
 pub fn causeless_superseding_is_unlawful()
-    ensures { Lawful one_warming one_commit trial.superseded_by_none → ⊥ }
+    ensures unlawful { Lawful one_warming one_commit trial.superseded_by_none → ⊥ }
+    ensures alone { BreaksAlone one_warming one_commit trial.superseded_by_none greatest_serves }
 {}
 
 /// No searcher is registered over a greater one.
 pub fn late_registration_is_unlawful()
-    ensures { Lawful two_warming two_commits trial.registered_too_late → ⊥ }
+    ensures unlawful { Lawful two_warming two_commits trial.registered_too_late → ⊥ }
+    ensures alone { BreaksAlone two_warming two_commits trial.registered_too_late greatest_serves }
 {}
 
 /// A document is added, committed and found.
@@ -47,50 +54,72 @@ pub fn worked_output_is_lawful()
 
 /// The openings ascend with the generations.
 pub fn descending_openings_are_unlawful()
-    ensures { Lawful two_warming two_commits trial.openings_descend → ⊥ }
+    ensures unlawful { Lawful two_warming two_commits trial.openings_descend → ⊥ }
+    ensures alone { BreaksAlone two_warming two_commits trial.openings_descend one_history }
 {}
 
 /// A client's later update has the greater place.
 pub fn swapped_places_are_unlawful()
-    ensures { Lawful one_warming two_adds trial.places_are_swapped → ⊥ }
+    ensures unlawful { Lawful one_warming two_adds trial.places_are_swapped → ⊥ }
+    ensures alone { BreaksAlone one_warming two_adds trial.places_are_swapped clients_orders }
 {}
 
 /// An accepted add has a place.
 pub fn add_without_place_is_unlawful()
-    ensures { Lawful one_warming two_adds trial.add_has_no_place → ⊥ }
+    ensures unlawful { Lawful one_warming two_adds trial.add_has_no_place → ⊥ }
+    ensures alone { BreaksAlone one_warming two_adds trial.add_has_no_place answers }
 {}
 
 /// A body that is no document is refused.
 pub fn accepted_bad_add_is_unlawful()
-    ensures { Lawful one_warming bad_add trial.bad_add_is_accepted → ⊥ }
+    ensures unlawful { Lawful one_warming bad_add trial.bad_add_is_accepted → ⊥ }
+    ensures alone { BreaksAlone one_warming bad_add trial.bad_add_is_accepted answers }
 {}
 
 /// A commit is refused for too many warming searchers only where there are as many.
 pub fn causeless_refusal_is_unlawful()
-    ensures { Lawful one_warming one_commit trial.refused_without_cause → ⊥ }
+    ensures unlawful { Lawful one_warming one_commit trial.refused_without_cause → ⊥ }
+    ensures alone { BreaksAlone one_warming one_commit trial.refused_without_cause answers }
 {}
 
 /// A commit tells the generation of a searcher that it opened.
 pub fn opening_of_nothing_is_unlawful()
-    ensures { Lawful one_warming one_commit trial.opened_nothing → ⊥ }
+    ensures unlawful { Lawful one_warming one_commit trial.opened_nothing → ⊥ }
+    ensures alone { BreaksAlone one_warming one_commit trial.opened_nothing answers }
 {}
 
 /// No more searchers are warming than may be.
 pub fn crowded_warming_is_unlawful()
-    ensures { Lawful one_warming two_commits trial.warms_too_many → ⊥ }
+    ensures unlawful { Lawful one_warming two_commits trial.warms_too_many → ⊥ }
+    ensures alone { BreaksAlone one_warming two_commits trial.warms_too_many answers }
 {}
 
 /// A query is served from a searcher that there was.
 pub fn service_from_none_is_unlawful()
-    ensures { Lawful one_warming one_query trial.served_from_none → ⊥ }
+    ensures unlawful { Lawful one_warming one_query trial.served_from_none → ⊥ }
+    ensures alone { BreaksAlone one_warming one_query trial.served_from_none answers }
 {}
 
 /// A reply is the answer on what the told generation sees.
 pub fn reply_of_another_view_is_unlawful()
-    ensures { Lawful one_warming add_commit_query trial.reply_of_another_view → ⊥ }
+    ensures unlawful { Lawful one_warming add_commit_query trial.reply_of_another_view → ⊥ }
+    ensures alone { BreaksAlone one_warming add_commit_query trial.reply_of_another_view answers }
 {}
 
 /// A query is served from no searcher before that for which its client has waited.
 pub fn service_from_before_is_unlawful()
-    ensures { Lawful one_warming add_commit_query trial.served_from_before → ⊥ }
+    ensures unlawful { Lawful one_warming add_commit_query trial.served_from_before → ⊥ }
+    ensures alone { BreaksAlone one_warming add_commit_query trial.served_from_before answers }
+{}
+
+/// An update of a later phase has the greater place.
+pub fn swapped_phases_are_unlawful()
+    ensures unlawful { Lawful one_warming adds_in_phases trial.phases_are_swapped → ⊥ }
+    ensures alone { BreaksAlone one_warming adds_in_phases trial.phases_are_swapped clients_orders }
+{}
+
+/// A client's later query is served from no earlier generation.
+pub fn backward_service_is_unlawful()
+    ensures unlawful { Lawful one_warming queries_and_commit trial.served_backwards → ⊥ }
+    ensures alone { BreaksAlone one_warming queries_and_commit trial.served_backwards answers }
 {}
