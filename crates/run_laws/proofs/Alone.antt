@@ -1,7 +1,7 @@
 -- Each broken output breaks its law, and keeps the others.
-use Rattle.std.proofs.Common.{◌≡◌, ◌≢◌, ℕ, ◌<◌, ◌≤◌, List, [], ◌∷◌, Option, Some, None, refl, sym, subst, inl, inr, arith, rules}
+use Rattle.std.proofs.Common.{◌≡◌, ◌≢◌, ℕ, ◌<◌, ◌≤◌, List, [], ◌∷◌, Option, Some, None, refl, sym, ap, subst, ◌∙◌, inl, inr, arith, rules}
 use Rattle.std.proofs.lemmas.Grind.{common_steps}
-use Rattle.std.proofs.Math.Option.{some-injective}
+use Rattle.std.specs.Option.{option_map_or}
 use Rattle.serde_json.proofs.OnLiterals.{serde_json_on_literals}
 use Rattle.search_model.specs.Answer.{answer}
 use Rattle.search_model.specs.Reply.{accepted, too_many, found}
@@ -10,7 +10,7 @@ use Rattle.run_laws.specs.Rows.{commit}
 use Rattle.run_laws.specs.Places.{view_of}
 use Rattle.run_laws.specs.Lawful.{Lawful, Shows}
 use Rattle.run_laws.specs.Trials.{Law, one_row_each, one_history, clients_orders, answers, greatest_serves, tickets, warmings, Keeps, BreaksAlone, told_of, one_warming, two_warming, two_fields, asked_x, served, add_commit_query, add_has_no_place, adds_in_phases, adds_of_two, bad_add, bad_add_is_accepted, one_commit, one_query, opened_nothing, openings_descend, phases_are_swapped, place_is_shared, places_are_swapped, queries_and_commit, refused_without_cause, registered_too_late, reply_of_another_view, row_is_missing, served_backwards, served_from_before, served_from_none, superseded_by_none, ticket_is_skipped, two_adds, two_commits, warmed_from_itself, warmed_from_none, warms_too_many}
-use Rattle.run_laws.proofs.Worked.{shows, tells, tells_added, tells_committed, tells_served, add_answered, found_rows, found_history, found_orders, found_answers, found_serves, found_warmings}
+use Rattle.run_laws.proofs.Worked.{shows, tells, tells_added, tells_committed, tells_served, add_answered, found_rows, found_history, found_orders, found_answers, found_serves, found_warmings, finds_one}
 
 row_is_missing_others : (other : Law) → other ≢ one_row_each → Keeps one_warming add_commit_query row_is_missing other
 row_is_missing_others one_row_each differs = absurd (differs refl)
@@ -221,8 +221,8 @@ reply_of_another_view_others warmings differs = (refl, ((refl, (3, omega arith, 
 one_is_found : (g : ℕ) → Some 2 ≡ Some g → Shows two_fields (served 3 2 0 []) (found asked_x (answer (view_of two_fields (told_of add_commit_query reply_of_another_view) reply_of_another_view g) asked_x)) → ⊥
 unfolding serde_json_on_literals
 one_is_found g e s =
-    let shown = subst (λ (n : ℕ). Shows two_fields (served 3 2 0 []) (found asked_x (answer (view_of two_fields (told_of add_commit_query reply_of_another_view) reply_of_another_view n) asked_x))) (sym (some-injective 2 g e)) s in
-    let none : ◌≡◌ {A = ℕ} 0 1 = shown.found in
+    let shown = subst (λ (n : ℕ). Shows two_fields (served 3 2 0 []) (found asked_x (answer (view_of two_fields (told_of add_commit_query reply_of_another_view) reply_of_another_view n) asked_x))) (ap (λ (o : Option ℕ). option_map_or (λ n. n) o 2) (sym e)) s in
+    let none : ◌≡◌ {A = ℕ} 0 1 = shown.found ∙ finds_one in
     omega (arith, none)
 
 reply_of_another_view_breaks : Keeps one_warming add_commit_query reply_of_another_view answers → ⊥

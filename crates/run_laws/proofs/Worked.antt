@@ -1,8 +1,11 @@
 -- Which laws hold where a document is added, committed and found.
-use Rattle.std.proofs.Common.{◌≡◌, ℕ, ◌<◌, ◌≤◌, List, [], ◌∷◌, Option, Some, None, Ok, refl, ◌⊎◌, inl, inr, arith, rules}
+use Rattle.std.proofs.Common.{◌≡◌, ℕ, ◌<◌, ◌≤◌, List, [], ◌∷◌, length, map, take, drop, cond, Bool, true, ◌&&◌, Option, Some, None, Ok, codes, refl, ap, ◌⊎◌, inl, inr, arith, rules}
 use Rattle.serde_json.proofs.OnLiterals.{serde_json_on_literals}
+use Rattle.field_schema.specs.declared.key.Key.TheVariants.{Str}
 use Rattle.doc_model.specs.Document.{Document}
-use Rattle.search_model.specs.Reply.{Outcome, found, accepted}
+use Rattle.query_tree.specs.Matches.{top}
+use Rattle.query_tree.proofs.Matching.{top_Term}
+use Rattle.search_model.specs.Reply.{Outcome, found, accepted, found_of}
 use Rattle.search_model.specs.Answer.{answer}
 use Rattle.script_form.specs.Requests.{asked_of}
 use Rattle.run_laws.specs.Rows.{Verb, add, query, commit, RequestRow}
@@ -63,6 +66,23 @@ module _ (acquired acquired_then : ℕ) (from : Option (ℕ × ℕ)) (ticket : �
 -- the second searcher was warmed from the first while that was current
 pub found_warmings : (acquired acquired_then pin ticket : ℕ) → Keeps one_warming add_commit_query (found_once acquired acquired_then (Some (1, pin)) ticket) warmings
 found_warmings acquired acquired_then pin ticket = (refl, ((refl, (3, omega arith, omega arith, refl)), tt))
+
+-- ---- what the query finds
+
+x_matches : top document_a asked_x.query ≡ true
+x_matches = top_Term document_a 1 (Str (codes "x"))
+
+-- the query finds the document
+pub finds_one : found_of (found asked_x (answer (document_a ∷ []) asked_x)) ≡ 1
+finds_one = ap (λ b. length (cond (b && true) (document_a ∷ []) [])) x_matches
+
+pub worked_found : map (λ r. r.found) worked.requests ≡ 0 ∷ 0 ∷ 1 ∷ []
+worked_found = ap (λ n. 0 ∷ 0 ∷ n ∷ []) finds_one
+
+pub worked_docs : map (λ r. r.docs) worked.requests ≡ 0 ∷ 0 ∷ 1 ∷ []
+worked_docs = ap (λ b. 0 ∷ 0 ∷ length (take 10 (drop 0 (cond (b && true) (document_a ∷ []) []))) ∷ []) x_matches
+
+-- ---- the whole
 
 pub worked_is_lawful : Lawful one_warming add_commit_query worked
 worked_is_lawful = record {

@@ -2,4 +2,5 @@
 //! thread, cache or loop of the program is in them.
 #![tactic(auto)]
 
+pub mod texts;
 pub mod trials;

@@ -1,6 +1,6 @@
 //! The laws are tried on small outputs: one that is lawful, and others of which each breaks one law alone. Each
 //! function does nothing: its clause is what the trial shows.
-ghost use Rattle.std.specs.Prelude.{◌≡◌};
+ghost use Rattle.std.specs.Prelude.{◌≡◌, ◌∷◌, [], map};
 ghost use Rattle.run_laws.specs.Lawful.{Lawful};
 ghost use Rattle.run_laws.specs.Trials.{BreaksAlone, one_row_each, one_history, clients_orders, answers, greatest_serves, tickets, warmings, one_warming, two_warming, add_commit_query, two_adds, adds_of_two, adds_in_phases, bad_add, one_commit, two_commits, one_query, queries_and_commit, worked};
 ghost use Rattle.run_laws.specs.Trials as trial;
@@ -47,9 +47,11 @@ pub fn late_registration_is_unlawful()
     ensures alone { BreaksAlone two_warming two_commits trial.registered_too_late greatest_serves }
 {}
 
-/// A document is added, committed and found.
+/// A document is added, committed and found: the output is lawful, and the query's row alone tells a document.
 pub fn worked_output_is_lawful()
-    ensures { Lawful one_warming add_commit_query worked }
+    ensures lawful { Lawful one_warming add_commit_query worked }
+    ensures found { map (λ r. r.found) worked.requests ≡ 0 ∷ 0 ∷ 1 ∷ [] }
+    ensures docs { map (λ r. r.docs) worked.requests ≡ 0 ∷ 0 ∷ 1 ∷ [] }
 {}
 
 /// The openings ascend with the generations.
