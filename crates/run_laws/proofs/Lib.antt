@@ -1,4 +1,4 @@
-pub mod Readings
 pub mod Worked
 pub mod Alone
 pub mod Written
+pub mod FirstPlace

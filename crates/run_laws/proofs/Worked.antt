@@ -1,17 +1,21 @@
 -- Which laws hold where a document is added, committed and found.
-use Rattle.std.proofs.Common.{◌≡◌, ℕ, ◌<◌, ◌≤◌, List, [], ◌∷◌, length, map, take, drop, cond, Bool, true, ◌&&◌, Option, Some, None, Ok, codes, refl, ap, ◌⊎◌, inl, inr, arith, rules}
+use Rattle.std.proofs.Common.{◌≡◌, ℕ, ◌<◌, ◌≤◌, List, [], ◌∷◌, length, map, take, drop, cond, Bool, true, ◌&&◌, Option, Some, None, Ok, codes, refl, ap, ◌∙◌, ◌⊎◌, inl, inr, arith, rules}
+use Rattle.std.specs.Fmt.{digits}
 use Rattle.serde_json.proofs.OnLiterals.{serde_json_on_literals}
 use Rattle.field_schema.specs.declared.key.Key.TheVariants.{Str}
 use Rattle.doc_model.specs.Document.{Document}
 use Rattle.query_tree.specs.Matches.{top}
 use Rattle.query_tree.proofs.Matching.{top_Term}
 use Rattle.search_model.specs.Reply.{Outcome, found, accepted, found_of}
-use Rattle.search_model.specs.Answer.{answer}
+use Rattle.search_model.specs.Answer.{Answer, answer}
 use Rattle.script_form.specs.Requests.{asked_of}
-use Rattle.run_laws.specs.Rows.{Verb, add, query, commit, RequestRow}
+use Rattle.script_form.specs.declared.config.Config.{Config}
+use Rattle.script_form.specs.declared.script.Line.{Line}
+use Rattle.run_laws.specs.Rows.{Verb, add, query, commit, RequestRow, Output}
 use Rattle.run_laws.specs.Reading.{update_of}
 use Rattle.run_laws.specs.Lawful.{Lawful, Shows, UpdateIsAnswered}
-use Rattle.run_laws.specs.Trials.{one_row_each, one_history, clients_orders, answers, greatest_serves, tickets, warmings, Keeps, one_warming, two_fields, add_a, document_a, asked_x, add_commit_query, row, added_at, committed_at, served, found_once, worked}
+use Rattle.run_laws.specs.OutputText.{output_text}
+use Rattle.run_laws.specs.Trials.{Law, one_row_each, one_history, clients_orders, answers, greatest_serves, tickets, warmings, Keeps, one_warming, two_fields, add_a, document_a, asked_x, add_commit_query, row, added_at, committed_at, served, found_once, worked, worked_text}
 
 -- the numbers of a trial's row are those of its outcome
 pub shows : (client number : ℕ) (verb : Verb) (place generation ticket : Option ℕ) (o : Outcome) → Shows two_fields (row client number verb place generation ticket o) o
@@ -84,13 +88,48 @@ worked_docs = ap (λ b. 0 ∷ 0 ∷ length (take 10 (drop 0 (cond (b && true) (d
 
 -- ---- the whole
 
-pub worked_is_lawful : Lawful one_warming add_commit_query worked
-worked_is_lawful = record {
-  answers_each = found_rows 1 1 (Some (1, 0)) 0;
-  one_history = found_history 1 1 (Some (1, 0)) 0;
-  keeps_order = found_orders 1 1 (Some (1, 0)) 0;
-  answered = found_answers 1 1 (Some (1, 0)) 0;
-  greatest_serves = found_serves 1 1 (Some (1, 0)) 0;
-  tickets = search rules;
-  warmings = found_warmings 1 1 0 0;
+-- an output is lawful that keeps each law
+pub lawful_by : (c : Config) (script : List Line) (o : Output) → ((law : Law) → Keeps c script o law) → Lawful c script o
+lawful_by c script o keeps = record {
+  answers_each = keeps one_row_each;
+  one_history = keeps one_history;
+  keeps_order = keeps clients_orders;
+  answered = keeps answers;
+  greatest_serves = keeps greatest_serves;
+  tickets = keeps tickets;
+  warmings = keeps warmings;
 }
+
+worked_keeps : (law : Law) → Keeps one_warming add_commit_query worked law
+worked_keeps one_row_each = found_rows 1 1 (Some (1, 0)) 0
+worked_keeps one_history = found_history 1 1 (Some (1, 0)) 0
+worked_keeps clients_orders = found_orders 1 1 (Some (1, 0)) 0
+worked_keeps answers = found_answers 1 1 (Some (1, 0)) 0
+worked_keeps greatest_serves = found_serves 1 1 (Some (1, 0)) 0
+worked_keeps tickets = search rules
+worked_keeps warmings = found_warmings 1 1 0 0
+
+pub worked_is_lawful : Lawful one_warming add_commit_query worked
+worked_is_lawful = lawful_by one_warming add_commit_query worked worked_keeps
+
+-- ---- its text
+
+one_answer : answer (document_a ∷ []) asked_x ≡ record { found = 1; docs = document_a ∷ [] }
+one_answer =
+    ap (λ b. let docs : List Document = cond (b && true) (document_a ∷ []) [] in
+    let a : Answer = record { found = length docs; docs = take 10 (drop 0 docs) } in a) x_matches
+
+-- the text, where the query is answered so
+text_with : Answer → List ℕ
+text_with a = output_text (record {
+  requests = added_at 1 1 2 ∷ committed_at 1 2 3 2 ∷ row 1 3 query None (Some 2) (Some 0) (found asked_x a) ∷ [];
+  searchers = worked.searchers;
+})
+
+text_with_one : text_with (record { found = 1; docs = document_a ∷ [] }) ≡ worked_text
+unfolding serde_json_on_literals digits text_with
+text_with_one = refl
+
+pub worked_text_is : output_text worked ≡ worked_text
+unfolding text_with
+worked_text_is = ap text_with one_answer ∙ text_with_one

@@ -1,12 +1,12 @@
 -- Small scripts, and outputs of them on which the laws are tried.
-use Rattle.std.specs.Prelude.{◌≡◌, ◌≢◌, ℕ, List, [], ◌∷◌, Bool, true, false, Option, Some, None, codes}
+use Rattle.std.specs.Prelude.{◌≡◌, ◌≢◌, ℕ, List, [], ◌∷◌, ◌++◌, Bool, true, false, Option, Some, None, codes}
 use Rattle.std.specs.List.{AllByRecursion}
 use Rattle.field_schema.specs.Schema.{Fields, string_field}
 use Rattle.field_schema.specs.declared.key.Key.TheVariants as key
 use Rattle.doc_model.specs.Document.{Document}
 use Rattle.query_tree.specs.declared.query.Query.{Term}
 use Rattle.search_model.specs.Answer.{Asked, answer}
-use Rattle.search_model.specs.Reply.{Outcome, found, accepted, refused, too_many, reply_text, code_of, found_of, docs_of}
+use Rattle.search_model.specs.Reply.{Outcome, found, accepted, refused, too_many, no_memory, reply_text, code_of, found_of, docs_of}
 use Rattle.script_form.specs.ReadConfig.{default_config}
 use Rattle.script_form.specs.Requests.{first_ten}
 use Rattle.script_form.specs.declared.config.Config.{Config}
@@ -81,6 +81,9 @@ line number request = record { number = number; what = request }
 -- one client adds, commits and queries
 abbrev pub add_commit_query : List Line
 add_commit_query = line 1 (what.Add 1 add_a) ∷ line 2 (what.Commit 1 []) ∷ line 3 (what.Query 1 find_x) ∷ []
+
+abbrev pub one_add : List Line
+one_add = line 1 (what.Add 1 add_a) ∷ []
 
 -- one client adds twice
 abbrev pub two_adds : List Line
@@ -167,6 +170,40 @@ found_once acquired acquired_then from ticket = record {
 abbrev pub worked : Output
 worked = found_once 1 1 (Some (1, 0)) 0
 
+-- the text of the worked output
+abbrev pub worked_text : List ℕ
+worked_text =
+    codes "{\"client\":1,\"line\":1,\"place\":2,\"reply\":{\"responseHeader\":{\"status\":0}}}\n" ++
+    (codes "{\"client\":1,\"generation\":2,\"line\":2,\"place\":3,\"reply\":{\"responseHeader\":{\"status\":0}}}\n" ++
+    (codes "{\"client\":1,\"generation\":2,\"line\":3,\"reply\":{\"response\":{\"docs\":[{\"cat\":\"x\",\"id\":\"a\"}],\"numFound\":1,\"numFoundExact\":true,\"start\":0}," ++
+    (codes "\"responseHeader\":{\"status\":0}},\"ticket\":0}\n" ++
+    (codes "{\"acquired\":1,\"finished\":1,\"generation\":1,\"opened\":0}\n" ++
+    codes "{\"acquired\":1,\"finished\":4,\"from\":1,\"fromTicket\":0,\"generation\":2,\"opened\":3}\n"))))
+
+-- ---- other lawful outputs
+
+-- nothing was asked for
+abbrev pub nothing_asked : Output
+nothing_asked = record { requests = []; searchers = first 0 ∷ [] }
+
+-- the later searcher ends first, and the earlier one is superseded
+abbrev pub overtaken : Output
+overtaken = record {
+  requests = committed_at 1 1 2 2 ∷ committed_at 2 2 3 3 ∷ [];
+  searchers = first 2 ∷ searcher 2 2 5 false 0 (Some (1, 0)) ∷ searcher 3 3 4 true 0 (Some (1, 1)) ∷ [];
+}
+
+-- the second commit comes while one searcher is warming, and is told which
+abbrev pub warming_told : Output
+warming_told = record {
+  requests = committed_at 1 1 2 2 ∷ row 2 2 commit (Some 3) None None (too_many (2 ∷ [])) ∷ [];
+  searchers = first 1 ∷ searcher 2 2 4 true 0 (Some (1, 0)) ∷ [];
+}
+
+-- there was no memory for the add
+abbrev pub add_without_memory : Output
+add_without_memory = record { requests = row 1 1 add None None None no_memory ∷ []; searchers = first 0 ∷ [] }
+
 -- ---- outputs that break one law
 
 -- the query has no row
@@ -203,6 +240,10 @@ add_has_no_place = record { requests = row 1 1 add None None None accepted ∷ a
 abbrev pub bad_add_is_accepted : Output
 bad_add_is_accepted = record { requests = added_at 1 1 2 ∷ []; searchers = first 0 ∷ [] }
 
+-- an add has a place though there was no memory for it
+abbrev pub placed_without_memory : Output
+placed_without_memory = record { requests = row 1 1 add (Some 2) None None no_memory ∷ []; searchers = first 0 ∷ [] }
+
 -- a searcher is superseded though none greater is current
 abbrev pub superseded_by_none : Output
 superseded_by_none = record {
@@ -225,6 +266,13 @@ refused_without_cause = record { requests = row 1 1 commit (Some 2) None None (t
 abbrev pub opened_nothing : Output
 opened_nothing = record { requests = committed_at 1 1 2 2 ∷ []; searchers = first 0 ∷ [] }
 
+-- a commit is refused, and told another searcher than the one that is warming
+abbrev pub another_warming_told : Output
+another_warming_told = record {
+  requests = committed_at 1 1 2 2 ∷ row 2 2 commit (Some 3) None None (too_many (1 ∷ [])) ∷ [];
+  searchers = first 1 ∷ searcher 2 2 4 true 0 (Some (1, 0)) ∷ [];
+}
+
 -- two searchers are warming where only one may be
 abbrev pub warms_too_many : Output
 warms_too_many = record {
@@ -240,6 +288,17 @@ served_from_none = record { requests = served 1 2 0 [] ∷ []; searchers = first
 abbrev pub reply_of_another_view : Output
 reply_of_another_view = record {
   requests = added_at 1 1 2 ∷ committed_at 1 2 3 2 ∷ served 3 2 0 [] ∷ [];
+  searchers = first 1 ∷ searcher 2 3 4 true 1 (Some (1, 0)) ∷ [];
+}
+
+-- a document that nobody added
+abbrev pub document_b : Document
+document_b = (key.Str (codes "b") ∷ []) ∷ (key.Str (codes "x") ∷ []) ∷ []
+
+-- the reply has as many documents as it must, but another one
+abbrev pub reply_with_another_document : Output
+reply_with_another_document = record {
+  requests = added_at 1 1 2 ∷ committed_at 1 2 3 2 ∷ row 1 3 query None (Some 2) (Some 0) (found asked_x (record { found = 1; docs = document_b ∷ [] })) ∷ [];
   searchers = first 1 ∷ searcher 2 3 4 true 1 (Some (1, 0)) ∷ [];
 }
 

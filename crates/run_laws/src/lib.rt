@@ -2,5 +2,8 @@
 //! thread, cache or loop of the program is in them.
 #![tactic(auto)]
 
+mod places;
 pub mod texts;
 pub mod trials;
+
+pub use places::first_place;

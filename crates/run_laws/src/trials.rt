@@ -2,7 +2,8 @@
 //! function does nothing: its clause is what the trial shows.
 ghost use Rattle.std.specs.Prelude.{◌≡◌, ◌∷◌, [], map};
 ghost use Rattle.run_laws.specs.Lawful.{Lawful};
-ghost use Rattle.run_laws.specs.Trials.{BreaksAlone, one_row_each, one_history, clients_orders, answers, greatest_serves, tickets, warmings, one_warming, two_warming, add_commit_query, two_adds, adds_of_two, adds_in_phases, bad_add, one_commit, two_commits, one_query, queries_and_commit, worked};
+ghost use Rattle.run_laws.specs.OutputText.{output_text};
+ghost use Rattle.run_laws.specs.Trials.{BreaksAlone, one_row_each, one_history, clients_orders, answers, greatest_serves, tickets, warmings, one_warming, two_warming, add_commit_query, two_adds, adds_of_two, adds_in_phases, bad_add, one_commit, two_commits, one_query, queries_and_commit, one_add, worked, worked_text};
 ghost use Rattle.run_laws.specs.Trials as trial;
 
 /// Places are taken once: two adds may not tell the same.
@@ -47,11 +48,13 @@ pub fn late_registration_is_unlawful()
     ensures alone { BreaksAlone two_warming two_commits trial.registered_too_late greatest_serves }
 {}
 
-/// A document is added, committed and found: the output is lawful, and the query's row alone tells a document.
+/// A document is added, committed and found: the output is lawful, the query's row alone tells a
+/// document, and the text is spelled out.
 pub fn worked_output_is_lawful()
     ensures lawful { Lawful one_warming add_commit_query worked }
     ensures found { map (λ r. r.found) worked.requests ≡ 0 ∷ 0 ∷ 1 ∷ [] }
     ensures docs { map (λ r. r.docs) worked.requests ≡ 0 ∷ 0 ∷ 1 ∷ [] }
+    ensures text { output_text worked ≡ worked_text }
 {}
 
 /// The openings ascend with the generations.
