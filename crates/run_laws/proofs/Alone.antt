@@ -1,16 +1,19 @@
 -- Each broken output breaks its law, and keeps the others.
 use Rattle.std.proofs.Common.{◌≡◌, ◌≢◌, ℕ, ◌<◌, ◌≤◌, List, [], ◌∷◌, Option, Some, None, refl, sym, ap, subst, ◌∙◌, inl, inr, arith, rules}
 use Rattle.std.proofs.lemmas.Grind.{common_steps}
+use Rattle.std.proofs.lemmas.Option.{none-some}
 use Rattle.std.specs.Option.{option_map_or}
+use Rattle.std.specs.Fmt.{digits}
+use Rattle.std.specs.Prelude.{slice_index}
 use Rattle.serde_json.proofs.OnLiterals.{serde_json_on_literals}
 use Rattle.search_model.specs.Answer.{answer}
-use Rattle.search_model.specs.Reply.{accepted, too_many, found}
+use Rattle.search_model.specs.Reply.{accepted, too_many, no_memory, found, reply_text}
 use Rattle.script_form.specs.Requests.{asked_of}
-use Rattle.run_laws.specs.Rows.{commit}
-use Rattle.run_laws.specs.Places.{view_of}
+use Rattle.run_laws.specs.Rows.{add, query, commit, RequestRow}
+use Rattle.run_laws.specs.Places.{view_of, warming}
 use Rattle.run_laws.specs.Lawful.{Lawful, Shows}
-use Rattle.run_laws.specs.Trials.{Law, one_row_each, one_history, clients_orders, answers, greatest_serves, tickets, warmings, Keeps, BreaksAlone, told_of, one_warming, two_warming, two_fields, asked_x, served, add_commit_query, add_has_no_place, adds_in_phases, adds_of_two, bad_add, bad_add_is_accepted, one_commit, one_query, opened_nothing, openings_descend, phases_are_swapped, place_is_shared, places_are_swapped, queries_and_commit, refused_without_cause, registered_too_late, reply_of_another_view, row_is_missing, served_backwards, served_from_before, served_from_none, superseded_by_none, ticket_is_skipped, two_adds, two_commits, warmed_from_itself, warmed_from_none, warms_too_many}
-use Rattle.run_laws.proofs.Worked.{shows, tells, tells_added, tells_committed, tells_served, add_answered, found_rows, found_history, found_orders, found_answers, found_serves, found_warmings, finds_one}
+use Rattle.run_laws.specs.Trials.{Law, one_row_each, one_history, clients_orders, answers, greatest_serves, tickets, warmings, Keeps, BreaksAlone, told_of, one_warming, two_warming, two_fields, asked_x, served, row, document_a, document_b, add_commit_query, add_has_no_place, adds_in_phases, adds_of_two, another_warming_told, bad_add, bad_add_is_accepted, one_add, one_commit, one_query, opened_nothing, openings_descend, phases_are_swapped, place_is_shared, placed_without_memory, places_are_swapped, queries_and_commit, refused_without_cause, registered_too_late, reply_of_another_view, reply_with_another_document, row_is_missing, served_backwards, served_from_before, served_from_none, superseded_by_none, ticket_is_skipped, two_adds, two_commits, warmed_from_itself, warmed_from_none, warms_too_many}
+use Rattle.run_laws.proofs.Worked.{shows, tells, tells_added, tells_committed, tells_served, add_answered, found_rows, found_history, found_orders, found_answers, found_serves, found_warmings, finds_one, one_answer}
 
 row_is_missing_others : (other : Law) → other ≢ one_row_each → Keeps one_warming add_commit_query row_is_missing other
 row_is_missing_others one_row_each differs = absurd (differs refl)
@@ -118,6 +121,21 @@ bad_add_is_accepted_breaks h = grind (arith, common_steps)
 pub bad_add_is_accepted_alone : BreaksAlone one_warming bad_add bad_add_is_accepted answers
 bad_add_is_accepted_alone = record { breaks = bad_add_is_accepted_breaks; keeps_others = bad_add_is_accepted_others }
 
+placed_without_memory_others : (other : Law) → other ≢ answers → Keeps one_warming one_add placed_without_memory other
+placed_without_memory_others one_row_each differs = record { rows = refl; numbers = (tells 1 1 add (Some 2) None None no_memory, tt); generations = refl }
+placed_without_memory_others one_history differs = search rules
+placed_without_memory_others clients_orders differs = search rules
+placed_without_memory_others answers differs = absurd (differs refl)
+placed_without_memory_others greatest_serves differs = search rules
+placed_without_memory_others tickets differs = search rules
+placed_without_memory_others warmings differs = search rules
+
+placed_without_memory_breaks : Keeps one_warming one_add placed_without_memory answers → ⊥
+placed_without_memory_breaks h = grind (arith, common_steps)
+
+pub placed_without_memory_alone : BreaksAlone one_warming one_add placed_without_memory answers
+placed_without_memory_alone = record { breaks = placed_without_memory_breaks; keeps_others = placed_without_memory_others }
+
 superseded_by_none_others : (other : Law) → other ≢ greatest_serves → Keeps one_warming one_commit superseded_by_none other
 superseded_by_none_others one_row_each differs = search (rules, shows)
 superseded_by_none_others one_history differs = search rules
@@ -178,6 +196,37 @@ opened_nothing_breaks h = grind (arith, common_steps)
 pub opened_nothing_alone : BreaksAlone one_warming one_commit opened_nothing answers
 opened_nothing_alone = record { breaks = opened_nothing_breaks; keeps_others = opened_nothing_others }
 
+another_warming_told_others : (other : Law) → other ≢ answers → Keeps one_warming two_commits another_warming_told other
+another_warming_told_others one_row_each differs = record { rows = refl; numbers = (tells_committed 1 1 2 2, (tells 2 2 commit (Some 3) None None (too_many (1 ∷ [])), tt)); generations = refl }
+another_warming_told_others one_history differs = search rules
+another_warming_told_others clients_orders differs = search rules
+another_warming_told_others answers differs = absurd (differs refl)
+another_warming_told_others greatest_serves differs = search rules
+another_warming_told_others tickets differs = search rules
+another_warming_told_others warmings differs = (refl, ((refl, (2, omega arith, omega arith, refl)), tt))
+
+-- the two replies differ where the generation stands
+refusals_differ : reply_text two_fields (too_many (1 ∷ [])) ≡ reply_text two_fields (too_many (2 ∷ [])) → ⊥
+unfolding serde_json_on_literals digits
+refusals_differ e =
+    let figures : ◌≡◌ {A = ℕ} 49 50 = ap (λ t. slice_index t 48) e in
+    omega (arith, figures)
+
+-- the second searcher is warming at place 3
+two_is_warming : (p : ℕ) → Some 3 ≡ Some p → Shows two_fields (row 2 2 commit (Some 3) None None (too_many (1 ∷ []))) (too_many (warming p another_warming_told.searchers)) → ⊥
+two_is_warming p e s =
+    let shown = subst (λ (n : ℕ). Shows two_fields (row 2 2 commit (Some 3) None None (too_many (1 ∷ []))) (too_many (warming n another_warming_told.searchers))) (ap (λ (o : Option ℕ). option_map_or (λ n. n) o 3) (sym e)) s in
+    refusals_differ shown.reply
+
+another_warming_told_breaks : Keeps one_warming two_commits another_warming_told answers → ⊥
+another_warming_told_breaks h = elim h.1.0 [
+    inl f ↦ elim f [ inl w ↦ none-some w.1 w.2.generation | inr w ↦ two_is_warming w.0 w.1.place w.1.shown ]
+  | inr w ↦ (let code : ◌≡◌ {A = ℕ} 503 500 = w.1.code in omega (arith, code))
+]
+
+pub another_warming_told_alone : BreaksAlone one_warming two_commits another_warming_told answers
+another_warming_told_alone = record { breaks = another_warming_told_breaks; keeps_others = another_warming_told_others }
+
 warms_too_many_others : (other : Law) → other ≢ answers → Keeps one_warming two_commits warms_too_many other
 warms_too_many_others one_row_each differs = search (rules, shows)
 warms_too_many_others one_history differs = search rules
@@ -234,6 +283,42 @@ reply_of_another_view_breaks h = elim h.1.1.0 [
 
 pub reply_of_another_view_alone : BreaksAlone one_warming add_commit_query reply_of_another_view answers
 reply_of_another_view_alone = record { breaks = reply_of_another_view_breaks; keeps_others = reply_of_another_view_others }
+
+reply_with_another_document_others : (other : Law) → other ≢ answers → Keeps one_warming add_commit_query reply_with_another_document other
+reply_with_another_document_others one_row_each differs = record { rows = refl; numbers = (tells_added 1 1 2, (tells_committed 1 2 3 2, (tells 1 3 query None (Some 2) (Some 0) (found asked_x (record { found = 1; docs = document_b ∷ [] })), tt))); generations = refl }
+reply_with_another_document_others one_history differs = search rules
+reply_with_another_document_others clients_orders differs = search rules
+reply_with_another_document_others answers differs = absurd (differs refl)
+reply_with_another_document_others greatest_serves differs = search rules
+reply_with_another_document_others tickets differs = search rules
+reply_with_another_document_others warmings differs = (refl, ((refl, (3, omega arith, omega arith, refl)), tt))
+
+-- the two replies differ where the unique key stands
+replies_differ : reply_text two_fields (found asked_x (record { found = 1; docs = document_b ∷ [] })) ≡ reply_text two_fields (found asked_x (record { found = 1; docs = document_a ∷ [] })) → ⊥
+unfolding serde_json_on_literals
+replies_differ e =
+    let letters : ◌≡◌ {A = ℕ} 98 97 = ap (λ t. slice_index t 38) e in
+    omega (arith, letters)
+
+-- the row of the query
+abbrev told_b : RequestRow
+told_b = row 1 3 query None (Some 2) (Some 0) (found asked_x (record { found = 1; docs = document_b ∷ [] }))
+
+a_is_found : (g : ℕ) → Some 2 ≡ Some g → Shows two_fields told_b (found asked_x (answer (view_of two_fields (told_of add_commit_query reply_with_another_document) reply_with_another_document g) asked_x)) → ⊥
+unfolding serde_json_on_literals
+a_is_found g e s =
+    let shown = subst (λ (n : ℕ). Shows two_fields told_b (found asked_x (answer (view_of two_fields (told_of add_commit_query reply_with_another_document) reply_with_another_document n) asked_x))) (ap (λ (o : Option ℕ). option_map_or (λ n. n) o 2) (sym e)) s in
+    replies_differ (shown.reply ∙ ap (λ a. reply_text two_fields (found asked_x a)) one_answer)
+
+reply_with_another_document_breaks : Keeps one_warming add_commit_query reply_with_another_document answers → ⊥
+unfolding asked_of
+reply_with_another_document_breaks h = elim h.1.1.0 [
+    inl w ↦ elim w.2.shown [ inl s ↦ a_is_found w.0 w.2.generation s | inr s ↦ (let code : ◌≡◌ {A = ℕ} 0 500 = s.code in omega (arith, code)) ]
+  | inr w ↦ (let code : ◌≡◌ {A = ℕ} 0 500 = w.1.code in omega (arith, code))
+]
+
+pub reply_with_another_document_alone : BreaksAlone one_warming add_commit_query reply_with_another_document answers
+reply_with_another_document_alone = record { breaks = reply_with_another_document_breaks; keeps_others = reply_with_another_document_others }
 
 served_from_before_others : (other : Law) → other ≢ answers → Keeps one_warming add_commit_query served_from_before other
 served_from_before_others one_row_each differs = record { rows = refl; numbers = (tells_added 1 1 2, (tells_committed 1 2 3 2, (tells_served 3 1 1 [], tt))); generations = refl }

@@ -2,3 +2,4 @@ pub mod Worked
 pub mod Alone
 pub mod Written
 pub mod FirstPlace
+pub mod Others

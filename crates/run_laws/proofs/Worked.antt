@@ -114,7 +114,7 @@ worked_is_lawful = lawful_by one_warming add_commit_query worked worked_keeps
 
 -- ---- its text
 
-one_answer : answer (document_a ∷ []) asked_x ≡ record { found = 1; docs = document_a ∷ [] }
+pub one_answer : answer (document_a ∷ []) asked_x ≡ record { found = 1; docs = document_a ∷ [] }
 one_answer =
     ap (λ b. let docs : List Document = cond (b && true) (document_a ∷ []) [] in
     let a : Answer = record { found = length docs; docs = take 10 (drop 0 docs) } in a) x_matches

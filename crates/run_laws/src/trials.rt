@@ -6,6 +6,15 @@ ghost use Rattle.run_laws.specs.OutputText.{output_text};
 ghost use Rattle.run_laws.specs.Trials.{BreaksAlone, one_row_each, one_history, clients_orders, answers, greatest_serves, tickets, warmings, one_warming, two_warming, add_commit_query, two_adds, adds_of_two, adds_in_phases, bad_add, one_commit, two_commits, one_query, queries_and_commit, one_add, worked, worked_text};
 ghost use Rattle.run_laws.specs.Trials as trial;
 
+/// Outputs that no serial run gives are lawful too: a later searcher overtakes an earlier one, a commit is told who is
+/// warming, and there is no memory for an add. So is the output of an empty script.
+pub fn other_outputs_are_lawful()
+    ensures nothing { Lawful one_warming [] trial.nothing_asked }
+    ensures overtaken { Lawful two_warming two_commits trial.overtaken }
+    ensures warming { Lawful one_warming two_commits trial.warming_told }
+    ensures memory { Lawful one_warming one_add trial.add_without_memory }
+{}
+
 /// Places are taken once: two adds may not tell the same.
 pub fn shared_place_is_unlawful()
     ensures unlawful { Lawful one_warming adds_of_two trial.place_is_shared → ⊥ }
@@ -127,4 +136,22 @@ pub fn swapped_phases_are_unlawful()
 pub fn backward_service_is_unlawful()
     ensures unlawful { Lawful one_warming queries_and_commit trial.served_backwards → ⊥ }
     ensures alone { BreaksAlone one_warming queries_and_commit trial.served_backwards answers }
+{}
+
+/// An update for which there was no memory takes no place.
+pub fn placed_add_without_memory_is_unlawful()
+    ensures unlawful { Lawful one_warming one_add trial.placed_without_memory → ⊥ }
+    ensures alone { BreaksAlone one_warming one_add trial.placed_without_memory answers }
+{}
+
+/// A refused commit is told which searchers are warming.
+pub fn another_warming_told_is_unlawful()
+    ensures unlawful { Lawful one_warming two_commits trial.another_warming_told → ⊥ }
+    ensures alone { BreaksAlone one_warming two_commits trial.another_warming_told answers }
+{}
+
+/// A reply has the documents that were found, and not others in their number.
+pub fn reply_with_another_document_is_unlawful()
+    ensures unlawful { Lawful one_warming add_commit_query trial.reply_with_another_document → ⊥ }
+    ensures alone { BreaksAlone one_warming add_commit_query trial.reply_with_another_document answers }
 {}
