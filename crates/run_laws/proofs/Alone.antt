@@ -12,7 +12,7 @@ use Rattle.script_form.specs.Requests.{asked_of}
 use Rattle.run_laws.specs.Rows.{add, query, commit, RequestRow}
 use Rattle.run_laws.specs.Places.{view_of, warming}
 use Rattle.run_laws.specs.Lawful.{Lawful, Shows}
-use Rattle.run_laws.specs.Trials.{Law, one_row_each, one_history, clients_orders, answers, greatest_serves, tickets, warmings, Keeps, BreaksAlone, told_of, one_warming, two_warming, two_fields, asked_x, served, row, document_a, document_b, add_commit_query, add_has_no_place, adds_in_phases, adds_of_two, another_warming_told, bad_add, bad_add_is_accepted, one_add, one_commit, one_query, opened_nothing, openings_descend, phases_are_swapped, place_is_shared, placed_without_memory, places_are_swapped, queries_and_commit, refused_without_cause, registered_too_late, reply_of_another_view, reply_with_another_document, row_is_missing, served_backwards, served_from_before, served_from_none, superseded_by_none, ticket_is_skipped, two_adds, two_commits, warmed_from_itself, warmed_from_none, warms_too_many}
+use Rattle.run_laws.specs.Trials.{Law, one_row_each, one_history, clients_orders, answers, greatest_serves, tickets, warmings, Keeps, BreaksAlone, told_of, one_warming, two_warming, two_fields, asked_x, served, row, document_a, document_b, add_commit_query, add_has_no_place, adds_in_phases, adds_of_two, another_warming_told, bad_add, bad_add_is_accepted, client_did_not_wait, commit_then_add, commit_then_phase, generation_is_skipped, one_add, one_commit, one_query, opened_nothing, openings_descend, phase_did_not_wait, phases_are_swapped, place_is_shared, placed_without_memory, places_are_swapped, queries_and_commit, refused_without_cause, registered_too_late, reply_of_another_view, reply_with_another_document, row_is_missing, served_backwards, served_from_before, served_from_none, superseded_by_none, ticket_is_skipped, tickets_descend, two_adds, two_commits, two_queries, warmed_from_itself, warmed_from_none, warms_too_many}
 use Rattle.run_laws.proofs.Worked.{shows, tells, tells_added, tells_committed, tells_served, add_answered, found_rows, found_history, found_orders, found_answers, found_serves, found_warmings, finds_one, one_answer}
 
 row_is_missing_others : (other : Law) → other ≢ one_row_each → Keeps one_warming add_commit_query row_is_missing other
@@ -30,11 +30,26 @@ row_is_missing_breaks h = grind (arith, common_steps)
 pub row_is_missing_alone : BreaksAlone one_warming add_commit_query row_is_missing one_row_each
 row_is_missing_alone = record { breaks = row_is_missing_breaks; keeps_others = row_is_missing_others }
 
+generation_is_skipped_others : (other : Law) → other ≢ one_row_each → Keeps one_warming one_commit generation_is_skipped other
+generation_is_skipped_others one_row_each differs = absurd (differs refl)
+generation_is_skipped_others one_history differs = search rules
+generation_is_skipped_others clients_orders differs = search rules
+generation_is_skipped_others answers differs = search (rules, shows, add_answered)
+generation_is_skipped_others greatest_serves differs = search rules
+generation_is_skipped_others tickets differs = search rules
+generation_is_skipped_others warmings differs = (refl, ((refl, (2, omega arith, omega arith, refl)), tt))
+
+generation_is_skipped_breaks : Keeps one_warming one_commit generation_is_skipped one_row_each → ⊥
+generation_is_skipped_breaks h = grind (arith, common_steps)
+
+pub generation_is_skipped_alone : BreaksAlone one_warming one_commit generation_is_skipped one_row_each
+generation_is_skipped_alone = record { breaks = generation_is_skipped_breaks; keeps_others = generation_is_skipped_others }
+
 place_is_shared_others : (other : Law) → other ≢ one_history → Keeps one_warming adds_of_two place_is_shared other
 place_is_shared_others one_row_each differs = search (rules, shows)
 place_is_shared_others one_history differs = absurd (differs refl)
 place_is_shared_others clients_orders differs = search rules
-place_is_shared_others answers differs = search (rules, shows, add_answered)
+place_is_shared_others answers differs = search (rules, add_answered)
 place_is_shared_others greatest_serves differs = search rules
 place_is_shared_others tickets differs = search rules
 place_is_shared_others warmings differs = search rules
@@ -64,7 +79,7 @@ places_are_swapped_others : (other : Law) → other ≢ clients_orders → Keeps
 places_are_swapped_others one_row_each differs = search (rules, shows)
 places_are_swapped_others one_history differs = search rules
 places_are_swapped_others clients_orders differs = absurd (differs refl)
-places_are_swapped_others answers differs = search (rules, shows, add_answered)
+places_are_swapped_others answers differs = search (rules, add_answered)
 places_are_swapped_others greatest_serves differs = search rules
 places_are_swapped_others tickets differs = search rules
 places_are_swapped_others warmings differs = search rules
@@ -79,7 +94,7 @@ phases_are_swapped_others : (other : Law) → other ≢ clients_orders → Keeps
 phases_are_swapped_others one_row_each differs = search (rules, shows)
 phases_are_swapped_others one_history differs = search rules
 phases_are_swapped_others clients_orders differs = absurd (differs refl)
-phases_are_swapped_others answers differs = search (rules, shows, add_answered)
+phases_are_swapped_others answers differs = search (rules, add_answered)
 phases_are_swapped_others greatest_serves differs = search rules
 phases_are_swapped_others tickets differs = search rules
 phases_are_swapped_others warmings differs = search rules
@@ -89,6 +104,36 @@ phases_are_swapped_breaks h = grind (arith, common_steps)
 
 pub phases_are_swapped_alone : BreaksAlone one_warming adds_in_phases phases_are_swapped clients_orders
 phases_are_swapped_alone = record { breaks = phases_are_swapped_breaks; keeps_others = phases_are_swapped_others }
+
+client_did_not_wait_others : (other : Law) → other ≢ clients_orders → Keeps one_warming commit_then_add client_did_not_wait other
+client_did_not_wait_others one_row_each differs = search (rules, shows)
+client_did_not_wait_others one_history differs = search rules
+client_did_not_wait_others clients_orders differs = absurd (differs refl)
+client_did_not_wait_others answers differs = (inl (inl (2, 2, record { place = refl; generation = refl; ticket = refl; opened = refl; room = omega arith; shown = shows 1 1 commit (Some 2) (Some 2) None accepted })), (add_answered 0 1 2 3, tt))
+client_did_not_wait_others greatest_serves differs = search rules
+client_did_not_wait_others tickets differs = search rules
+client_did_not_wait_others warmings differs = (refl, ((refl, (2, omega arith, omega arith, refl)), tt))
+
+client_did_not_wait_breaks : Keeps one_warming commit_then_add client_did_not_wait clients_orders → ⊥
+client_did_not_wait_breaks h = grind (arith, common_steps)
+
+pub client_did_not_wait_alone : BreaksAlone one_warming commit_then_add client_did_not_wait clients_orders
+client_did_not_wait_alone = record { breaks = client_did_not_wait_breaks; keeps_others = client_did_not_wait_others }
+
+phase_did_not_wait_others : (other : Law) → other ≢ clients_orders → Keeps one_warming commit_then_phase phase_did_not_wait other
+phase_did_not_wait_others one_row_each differs = search (rules, shows)
+phase_did_not_wait_others one_history differs = search rules
+phase_did_not_wait_others clients_orders differs = absurd (differs refl)
+phase_did_not_wait_others answers differs = (inl (inl (2, 2, record { place = refl; generation = refl; ticket = refl; opened = refl; room = omega arith; shown = shows 1 1 commit (Some 2) (Some 2) None accepted })), (add_answered 1 2 3 3, tt))
+phase_did_not_wait_others greatest_serves differs = search rules
+phase_did_not_wait_others tickets differs = search rules
+phase_did_not_wait_others warmings differs = (refl, ((refl, (2, omega arith, omega arith, refl)), tt))
+
+phase_did_not_wait_breaks : Keeps one_warming commit_then_phase phase_did_not_wait clients_orders → ⊥
+phase_did_not_wait_breaks h = grind (arith, common_steps)
+
+pub phase_did_not_wait_alone : BreaksAlone one_warming commit_then_phase phase_did_not_wait clients_orders
+phase_did_not_wait_alone = record { breaks = phase_did_not_wait_breaks; keeps_others = phase_did_not_wait_others }
 
 add_has_no_place_others : (other : Law) → other ≢ answers → Keeps one_warming two_adds add_has_no_place other
 add_has_no_place_others one_row_each differs = search (rules, shows)
@@ -349,6 +394,21 @@ served_backwards_breaks h = grind (arith, common_steps)
 
 pub served_backwards_alone : BreaksAlone one_warming queries_and_commit served_backwards answers
 served_backwards_alone = record { breaks = served_backwards_breaks; keeps_others = served_backwards_others }
+
+tickets_descend_others : (other : Law) → other ≢ answers → Keeps one_warming two_queries tickets_descend other
+tickets_descend_others one_row_each differs = record { rows = refl; numbers = (tells_served 1 1 1 [], (tells_served 2 1 0 [], tt)); generations = refl }
+tickets_descend_others one_history differs = search rules
+tickets_descend_others clients_orders differs = search rules
+tickets_descend_others answers differs = absurd (differs refl)
+tickets_descend_others greatest_serves differs = search rules
+tickets_descend_others tickets differs = search rules
+tickets_descend_others warmings differs = search rules
+
+tickets_descend_breaks : Keeps one_warming two_queries tickets_descend answers → ⊥
+tickets_descend_breaks h = grind (arith, common_steps)
+
+pub tickets_descend_alone : BreaksAlone one_warming two_queries tickets_descend answers
+tickets_descend_alone = record { breaks = tickets_descend_breaks; keeps_others = tickets_descend_others }
 
 ticket_is_skipped_others : (other : Law) → other ≢ tickets → Keeps one_warming add_commit_query ticket_is_skipped other
 ticket_is_skipped_others one_row_each differs = found_rows 1 1 (Some (1, 0)) 1

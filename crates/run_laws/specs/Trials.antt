@@ -104,9 +104,21 @@ bad_add = line 1 (what.Add 1 []) ∷ []
 abbrev pub one_commit : List Line
 one_commit = line 1 (what.Commit 1 []) ∷ []
 
+-- one client commits, and then adds
+abbrev pub commit_then_add : List Line
+commit_then_add = line 1 (what.Commit 1 []) ∷ line 2 (what.Add 1 add_a) ∷ []
+
+-- a client commits, and another adds in the next phase
+abbrev pub commit_then_phase : List Line
+commit_then_phase = line 1 (what.Commit 1 []) ∷ line 2 what.PhaseEnd ∷ line 3 (what.Add 2 add_a) ∷ []
+
 -- two clients commit once each
 abbrev pub two_commits : List Line
 two_commits = line 1 (what.Commit 1 []) ∷ line 2 (what.Commit 2 []) ∷ []
+
+-- one client queries twice
+abbrev pub two_queries : List Line
+two_queries = line 1 (what.Query 1 find_x) ∷ line 2 (what.Query 1 find_x) ∷ []
 
 -- a client queries twice, and another commits
 abbrev pub queries_and_commit : List Line
@@ -213,6 +225,13 @@ row_is_missing = record {
   searchers = first 1 ∷ searcher 2 3 4 true 0 (Some (1, 0)) ∷ [];
 }
 
+-- there is no searcher of generation 2, and one of generation 3
+abbrev pub generation_is_skipped : Output
+generation_is_skipped = record {
+  requests = committed_at 1 1 2 3 ∷ [];
+  searchers = first 1 ∷ searcher 3 2 3 true 0 (Some (1, 0)) ∷ [];
+}
+
 -- two adds have place 2
 abbrev pub place_is_shared : Output
 place_is_shared = record { requests = added_at 1 1 2 ∷ added_at 2 2 2 ∷ []; searchers = first 0 ∷ [] }
@@ -231,6 +250,20 @@ places_are_swapped = record { requests = added_at 1 1 3 ∷ added_at 1 2 2 ∷ [
 -- the later phase's add has the lower place
 abbrev pub phases_are_swapped : Output
 phases_are_swapped = record { requests = added_at 1 1 3 ∷ added_at 2 3 2 ∷ []; searchers = first 0 ∷ [] }
+
+-- the client's add comes before the end of the searcher for which the client has waited
+abbrev pub client_did_not_wait : Output
+client_did_not_wait = record {
+  requests = committed_at 1 1 2 2 ∷ added_at 1 2 3 ∷ [];
+  searchers = first 1 ∷ searcher 2 2 4 true 0 (Some (1, 0)) ∷ [];
+}
+
+-- the next phase's add comes before the end of the searcher that was opened in the phase before
+abbrev pub phase_did_not_wait : Output
+phase_did_not_wait = record {
+  requests = committed_at 1 1 2 2 ∷ added_at 2 3 3 ∷ [];
+  searchers = first 1 ∷ searcher 2 2 4 true 0 (Some (1, 0)) ∷ [];
+}
 
 -- an accepted add has no place
 abbrev pub add_has_no_place : Output
@@ -315,6 +348,10 @@ served_backwards = record {
   requests = served 1 2 0 [] ∷ served 2 1 1 [] ∷ committed_at 2 3 2 2 ∷ [];
   searchers = first 2 ∷ searcher 2 2 3 true 1 (Some (1, 0)) ∷ [];
 }
+
+-- the client's second query has the lower ticket
+abbrev pub tickets_descend : Output
+tickets_descend = record { requests = served 1 1 1 [] ∷ served 2 1 0 [] ∷ []; searchers = first 2 ∷ [] }
 
 -- the first ticket is 1
 abbrev pub ticket_is_skipped : Output

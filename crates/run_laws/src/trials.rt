@@ -3,7 +3,7 @@
 ghost use Rattle.std.specs.Prelude.{◌≡◌, ◌∷◌, [], map};
 ghost use Rattle.run_laws.specs.Lawful.{Lawful};
 ghost use Rattle.run_laws.specs.OutputText.{output_text};
-ghost use Rattle.run_laws.specs.Trials.{BreaksAlone, one_row_each, one_history, clients_orders, answers, greatest_serves, tickets, warmings, one_warming, two_warming, add_commit_query, two_adds, adds_of_two, adds_in_phases, bad_add, one_commit, two_commits, one_query, queries_and_commit, one_add, worked, worked_text};
+ghost use Rattle.run_laws.specs.Trials.{BreaksAlone, one_row_each, one_history, clients_orders, answers, greatest_serves, tickets, warmings, one_warming, two_warming, add_commit_query, two_adds, adds_of_two, adds_in_phases, bad_add, one_commit, two_commits, one_query, two_queries, queries_and_commit, one_add, commit_then_add, commit_then_phase, worked, worked_text};
 ghost use Rattle.run_laws.specs.Trials as trial;
 
 /// Outputs that no serial run gives are lawful too: a later searcher overtakes an earlier one, a commit is told who is
@@ -154,4 +154,28 @@ pub fn another_warming_told_is_unlawful()
 pub fn reply_with_another_document_is_unlawful()
     ensures unlawful { Lawful one_warming add_commit_query trial.reply_with_another_document → ⊥ }
     ensures alone { BreaksAlone one_warming add_commit_query trial.reply_with_another_document answers }
+{}
+
+/// The searchers are the generations from 1 on.
+pub fn skipped_generation_is_unlawful()
+    ensures unlawful { Lawful one_warming one_commit trial.generation_is_skipped → ⊥ }
+    ensures alone { BreaksAlone one_warming one_commit trial.generation_is_skipped one_row_each }
+{}
+
+/// A client's requests come behind the end of the searcher for which it has waited.
+pub fn client_that_does_not_wait_is_unlawful()
+    ensures unlawful { Lawful one_warming commit_then_add trial.client_did_not_wait → ⊥ }
+    ensures alone { BreaksAlone one_warming commit_then_add trial.client_did_not_wait clients_orders }
+{}
+
+/// The requests of a phase come behind the ends of all searchers that were opened before it.
+pub fn phase_that_does_not_wait_is_unlawful()
+    ensures unlawful { Lawful one_warming commit_then_phase trial.phase_did_not_wait → ⊥ }
+    ensures alone { BreaksAlone one_warming commit_then_phase trial.phase_did_not_wait clients_orders }
+{}
+
+/// The tickets of a client's queries on one generation rise.
+pub fn descending_tickets_are_unlawful()
+    ensures unlawful { Lawful one_warming two_queries trial.tickets_descend → ⊥ }
+    ensures alone { BreaksAlone one_warming two_queries trial.tickets_descend answers }
 {}
