@@ -1,5 +1,5 @@
 -- Each broken output breaks its law, and keeps the others.
-use Rattle.std.proofs.Common.{◌≡◌, ◌≢◌, ℕ, ◌<◌, ◌≤◌, List, [], ◌∷◌, Option, Some, None, refl, sym, ap, subst, ◌∙◌, inl, inr, arith, rules}
+use Rattle.std.proofs.Common.{◌≡◌, ◌≢◌, ℕ, [], ◌∷◌, Option, Some, None, refl, sym, ap, subst, ◌∙◌, inl, inr, arith, rules}
 use Rattle.std.proofs.lemmas.Grind.{common_steps}
 use Rattle.std.proofs.lemmas.Option.{none-some}
 use Rattle.std.specs.Option.{option_map_or}
@@ -11,7 +11,7 @@ use Rattle.search_model.specs.Reply.{accepted, too_many, no_memory, found, reply
 use Rattle.script_form.specs.Requests.{asked_of}
 use Rattle.run_laws.specs.Rows.{add, query, commit, RequestRow}
 use Rattle.run_laws.specs.Places.{view_of, warming}
-use Rattle.run_laws.specs.Lawful.{Lawful, Shows}
+use Rattle.run_laws.specs.Lawful.{Shows}
 use Rattle.run_laws.specs.Trials.{Law, one_row_each, one_history, clients_orders, answers, greatest_serves, tickets, warmings, Keeps, BreaksAlone, told_of, one_warming, two_warming, two_fields, asked_x, served, row, document_a, document_b, add_commit_query, add_has_no_place, adds_in_phases, adds_of_two, another_warming_told, bad_add, bad_add_is_accepted, client_did_not_wait, commit_then_add, commit_then_phase, generation_is_skipped, one_add, one_commit, one_query, opened_nothing, openings_descend, phase_did_not_wait, phases_are_swapped, place_is_shared, placed_without_memory, places_are_swapped, queries_and_commit, refused_without_cause, registered_too_late, reply_of_another_view, reply_with_another_document, row_is_missing, served_backwards, served_from_before, served_from_none, superseded_by_none, ticket_is_skipped, tickets_descend, two_adds, two_commits, two_queries, warmed_from_itself, warmed_from_none, warms_too_many}
 use Rattle.run_laws.proofs.Worked.{shows, tells, tells_added, tells_committed, tells_served, add_answered, found_rows, found_history, found_orders, found_answers, found_serves, found_warmings, finds_one, one_answer}
 
@@ -265,7 +265,7 @@ two_is_warming p e s =
 
 another_warming_told_breaks : Keeps one_warming two_commits another_warming_told answers → ⊥
 another_warming_told_breaks h = elim h.1.0 [
-    inl f ↦ elim f [ inl w ↦ none-some w.1 w.2.generation | inr w ↦ two_is_warming w.0 w.1.place w.1.shown ]
+  | inl f ↦ elim f [ inl w ↦ none-some w.1 w.2.generation | inr w ↦ two_is_warming w.0 w.1.place w.1.shown ]
   | inr w ↦ (let code : ◌≡◌ {A = ℕ} 503 500 = w.1.code in omega (arith, code))
 ]
 
@@ -322,7 +322,7 @@ one_is_found g e s =
 reply_of_another_view_breaks : Keeps one_warming add_commit_query reply_of_another_view answers → ⊥
 unfolding asked_of
 reply_of_another_view_breaks h = elim h.1.1.0 [
-    inl w ↦ elim w.2.shown [ inl s ↦ one_is_found w.0 w.2.generation s | inr s ↦ (let code : ◌≡◌ {A = ℕ} 0 500 = s.code in omega (arith, code)) ]
+  | inl w ↦ elim w.2.shown [ inl s ↦ one_is_found w.0 w.2.generation s | inr s ↦ (let code : ◌≡◌ {A = ℕ} 0 500 = s.code in omega (arith, code)) ]
   | inr w ↦ (let code : ◌≡◌ {A = ℕ} 0 500 = w.1.code in omega (arith, code))
 ]
 
@@ -358,7 +358,7 @@ a_is_found g e s =
 reply_with_another_document_breaks : Keeps one_warming add_commit_query reply_with_another_document answers → ⊥
 unfolding asked_of
 reply_with_another_document_breaks h = elim h.1.1.0 [
-    inl w ↦ elim w.2.shown [ inl s ↦ a_is_found w.0 w.2.generation s | inr s ↦ (let code : ◌≡◌ {A = ℕ} 0 500 = s.code in omega (arith, code)) ]
+  | inl w ↦ elim w.2.shown [ inl s ↦ a_is_found w.0 w.2.generation s | inr s ↦ (let code : ◌≡◌ {A = ℕ} 0 500 = s.code in omega (arith, code)) ]
   | inr w ↦ (let code : ◌≡◌ {A = ℕ} 0 500 = w.1.code in omega (arith, code))
 ]
 

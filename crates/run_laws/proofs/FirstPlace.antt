@@ -1,5 +1,5 @@
 -- No request takes a place below the second.
-use Rattle.std.proofs.Common.{◌≡◌, ℕ, ◌<◌, ◌≤◌, List, [], ◌∷◌, ◌++◌, map, drop, fold, max, Option, Some, None, IfSome, refl, ap, arith, le_refl}
+use Rattle.std.proofs.Common.{◌≡◌, ℕ, ◌<◌, ◌≤◌, List, [], ◌∷◌, ◌++◌, map, drop, fold, max, Option, Some, None, IfSome, ap, arith, le_refl}
 use Rattle.std.specs.List.{AllByRecursion, flat_map}
 use Rattle.script_form.specs.declared.config.Config.{Config}
 use Rattle.script_form.specs.declared.script.Line.{Line}
@@ -26,9 +26,10 @@ module _ (o : Output) where
   places_above [] (r ∷ rows) before e h = absurd (nonempty _ _ e)
   places_above (q ∷ qs) [] before e h = tt
   places_above (q ∷ qs) (r ∷ rows) before e h =
-      let t : Told = record { asked = q; row = r } in
-      (some_above (low o.searchers before t) (high (place_count o) t (tell qs rows)) r.place (fold_above 1 1 (flat_map (sets_below o.searchers t) before) (le_refl 1)) h.0,
-      places_above qs rows (before ++ t ∷ []) (ap (drop 1) e) h.1)
+      let t : Told = record { asked = q; row = r } in (
+        some_above (low o.searchers before t) (high (place_count o) t (tell qs rows)) r.place (fold_above 1 1 (flat_map (sets_below o.searchers t) before) (le_refl 1)) h.0,
+        places_above qs rows (before ++ t ∷ []) (ap (drop 1) e) h.1,
+      )
 
 pub requests_above : (c : Config) (script : List Line) (o : Output) → Lawful c script o → AllByRecursion (λ r. IfSome r.place (λ p. 2 ≤ p)) o.requests
 requests_above c script o h = places_above o (requests_of script) o.requests [] h.answers_each.rows h.keeps_order

@@ -1,8 +1,7 @@
 -- More outputs that are lawful.
-use Rattle.std.proofs.Common.{◌≡◌, ℕ, ◌<◌, ◌≤◌, List, [], ◌∷◌, Option, Some, None, refl, inl, inr, arith, rules}
+use Rattle.std.proofs.Common.{[], ◌∷◌, Some, None, refl, inl, inr, arith, rules}
 use Rattle.serde_json.proofs.OnLiterals.{serde_json_on_literals}
 use Rattle.search_model.specs.Reply.{accepted, too_many, no_memory}
-use Rattle.script_form.specs.declared.config.Config.{Config}
 use Rattle.run_laws.specs.Rows.{add, commit}
 use Rattle.run_laws.specs.Lawful.{Lawful}
 use Rattle.run_laws.specs.Trials.{Law, one_row_each, one_history, clients_orders, answers, greatest_serves, tickets, warmings, Keeps, one_warming, two_warming, one_add, two_commits, nothing_asked, overtaken, warming_told, add_without_memory}
@@ -38,8 +37,11 @@ warming_told_keeps one_history = search rules
 warming_told_keeps clients_orders = search rules
 warming_told_keeps answers = (
   inl (inl (2, 2, record { place = refl; generation = refl; ticket = refl; opened = refl; room = omega arith; shown = shows 1 1 commit (Some 2) (Some 2) None accepted })),
-  (inl (inr (3, record { place = refl; generation = refl; ticket = refl; full = refl; shown = shows 2 2 commit (Some 3) None None (too_many (2 ∷ [])) })),
-  tt))
+  (
+    inl (inr (3, record { place = refl; generation = refl; ticket = refl; full = refl; shown = shows 2 2 commit (Some 3) None None (too_many (2 ∷ [])) })),
+    tt,
+  ),
+)
 warming_told_keeps greatest_serves = search rules
 warming_told_keeps tickets = search rules
 warming_told_keeps warmings = (refl, ((refl, (2, omega arith, omega arith, refl)), tt))

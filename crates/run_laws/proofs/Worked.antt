@@ -1,5 +1,5 @@
 -- Which laws hold where a document is added, committed and found.
-use Rattle.std.proofs.Common.{◌≡◌, ℕ, ◌<◌, ◌≤◌, List, [], ◌∷◌, length, map, take, drop, cond, Bool, true, ◌&&◌, Option, Some, None, Ok, codes, refl, ap, ◌∙◌, ◌⊎◌, inl, inr, arith, rules}
+use Rattle.std.proofs.Common.{◌≡◌, ℕ, List, [], ◌∷◌, length, map, take, drop, cond, true, ◌&&◌, Option, Some, None, codes, refl, ap, ◌∙◌, inl, arith, rules}
 use Rattle.std.specs.Fmt.{digits}
 use Rattle.serde_json.proofs.OnLiterals.{serde_json_on_literals}
 use Rattle.field_schema.specs.declared.key.Key.TheVariants.{Str}
@@ -11,7 +11,7 @@ use Rattle.search_model.specs.Answer.{Answer, answer}
 use Rattle.script_form.specs.Requests.{asked_of}
 use Rattle.script_form.specs.declared.config.Config.{Config}
 use Rattle.script_form.specs.declared.script.Line.{Line}
-use Rattle.run_laws.specs.Rows.{Verb, add, query, commit, RequestRow, Output}
+use Rattle.run_laws.specs.Rows.{Verb, add, query, commit, Output}
 use Rattle.run_laws.specs.Reading.{update_of}
 use Rattle.run_laws.specs.Lawful.{Lawful, Shows, UpdateIsAnswered}
 use Rattle.run_laws.specs.OutputText.{output_text}
@@ -54,15 +54,25 @@ module _ (acquired acquired_then : ℕ) (from : Option (ℕ × ℕ)) (ticket : �
   unfolding serde_json_on_literals asked_of
   found_answers = (
     add_answered 0 1 1 2,
-    (inl (inl (3, 2, record { place = refl; generation = refl; ticket = refl; opened = refl; room = omega arith; shown = shows 1 2 commit (Some 3) (Some 2) None accepted })),
-    (inl (2, ticket, record {
-      place = refl;
-      generation = refl;
-      ticket = refl;
-      current = (4, omega arith, omega arith, refl);
-      rising = tt;
-      shown = inl (shows 1 3 query None (Some 2) (Some ticket) (found asked_x (answer (document_a ∷ []) asked_x)));
-    }), tt)))
+    (
+      inl (inl (3, 2, record { place = refl; generation = refl; ticket = refl; opened = refl; room = omega arith; shown = shows 1 2 commit (Some 3) (Some 2) None accepted })),
+      (
+        inl (
+          2,
+          ticket,
+          record {
+            place = refl;
+            generation = refl;
+            ticket = refl;
+            current = (4, omega arith, omega arith, refl);
+            rising = tt;
+            shown = inl (shows 1 3 query None (Some 2) (Some ticket) (found asked_x (answer (document_a ∷ []) asked_x)));
+          },
+        ),
+        tt,
+      ),
+    ),
+  )
 
   pub found_serves : Keeps one_warming add_commit_query (found_once acquired acquired_then from ticket) greatest_serves
   found_serves = search rules

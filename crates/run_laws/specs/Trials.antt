@@ -1,19 +1,19 @@
 -- Small scripts, and outputs of them on which the laws are tried.
-use Rattle.std.specs.Prelude.{◌≡◌, ◌≢◌, ℕ, List, [], ◌∷◌, ◌++◌, Bool, true, false, Option, Some, None, codes}
+use Rattle.std.specs.Prelude.{◌≢◌, ℕ, List, [], ◌∷◌, ◌++◌, Bool, true, false, Option, Some, None, codes}
 use Rattle.std.specs.List.{AllByRecursion}
 use Rattle.field_schema.specs.Schema.{Fields, string_field}
 use Rattle.field_schema.specs.declared.key.Key.TheVariants as key
 use Rattle.doc_model.specs.Document.{Document}
 use Rattle.query_tree.specs.declared.query.Query.{Term}
 use Rattle.search_model.specs.Answer.{Asked, answer}
-use Rattle.search_model.specs.Reply.{Outcome, found, accepted, refused, too_many, no_memory, reply_text, code_of, found_of, docs_of}
+use Rattle.search_model.specs.Reply.{Outcome, found, accepted, too_many, no_memory, reply_text, code_of, found_of, docs_of}
 use Rattle.script_form.specs.ReadConfig.{default_config}
 use Rattle.script_form.specs.Requests.{first_ten}
 use Rattle.script_form.specs.declared.config.Config.{Config}
 use Rattle.script_form.specs.declared.script.Line.{Line}
 use Rattle.script_form.specs.declared.script.What.{What}
 use Rattle.script_form.specs.declared.script.What.TheVariants as what
-use Rattle.run_laws.specs.Rows.{Verb, add, delete, query, commit, RequestRow, SearcherRow, Output}
+use Rattle.run_laws.specs.Rows.{Verb, add, query, commit, RequestRow, SearcherRow, Output}
 use Rattle.run_laws.specs.Requests.{Told, requests_of, tell, Each}
 use Rattle.run_laws.specs.Lawful.{AnswersEach, IsOneHistory, KeepsOrder, IsAnswered, ServesUnlessOlder, CountsTickets, TellsWarmings}
 

@@ -6,6 +6,15 @@ ghost use Rattle.run_laws.specs.OutputText.{output_text};
 ghost use Rattle.run_laws.specs.Trials.{BreaksAlone, one_row_each, one_history, clients_orders, answers, greatest_serves, tickets, warmings, one_warming, two_warming, add_commit_query, two_adds, adds_of_two, adds_in_phases, bad_add, one_commit, two_commits, one_query, two_queries, queries_and_commit, one_add, commit_then_add, commit_then_phase, worked, worked_text};
 ghost use Rattle.run_laws.specs.Trials as trial;
 
+/// A document is added, committed and found: the output is lawful, the query's row alone tells a
+/// document, and the text is spelled out.
+pub fn worked_output_is_lawful()
+    ensures lawful { Lawful one_warming add_commit_query worked }
+    ensures found { map (λ r. r.found) worked.requests ≡ 0 ∷ 0 ∷ 1 ∷ [] }
+    ensures docs { map (λ r. r.docs) worked.requests ≡ 0 ∷ 0 ∷ 1 ∷ [] }
+    ensures text { output_text worked ≡ worked_text }
+{}
+
 /// Outputs that no serial run gives are lawful too: a later searcher overtakes an earlier one, a commit is told who is
 /// warming, and there is no memory for an add. So is the output of an empty script.
 pub fn other_outputs_are_lawful()
@@ -15,55 +24,22 @@ pub fn other_outputs_are_lawful()
     ensures memory { Lawful one_warming one_add trial.add_without_memory }
 {}
 
-/// Places are taken once: two adds may not tell the same.
-pub fn shared_place_is_unlawful()
-    ensures unlawful { Lawful one_warming adds_of_two trial.place_is_shared → ⊥ }
-    ensures alone { BreaksAlone one_warming adds_of_two trial.place_is_shared one_history }
-{}
-
-/// Tickets count from 0.
-pub fn skipped_ticket_is_unlawful()
-    ensures unlawful { Lawful one_warming add_commit_query trial.ticket_is_skipped → ⊥ }
-    ensures alone { BreaksAlone one_warming add_commit_query trial.ticket_is_skipped tickets }
-{}
-
-/// A searcher above the first is warmed from one.
-pub fn warming_from_none_is_unlawful()
-    ensures unlawful { Lawful one_warming add_commit_query trial.warmed_from_none → ⊥ }
-    ensures alone { BreaksAlone one_warming add_commit_query trial.warmed_from_none warmings }
-{}
-
-/// No searcher is warmed from itself, since it is not current yet.
-pub fn warming_from_itself_is_unlawful()
-    ensures unlawful { Lawful one_warming add_commit_query trial.warmed_from_itself → ⊥ }
-    ensures alone { BreaksAlone one_warming add_commit_query trial.warmed_from_itself warmings }
-{}
-
 /// Each request has a row.
 pub fn missing_row_is_unlawful()
     ensures unlawful { Lawful one_warming add_commit_query trial.row_is_missing → ⊥ }
     ensures alone { BreaksAlone one_warming add_commit_query trial.row_is_missing one_row_each }
 {}
 
-/// A searcher is superseded by none but a greater one.
-pub fn causeless_superseding_is_unlawful()
-    ensures unlawful { Lawful one_warming one_commit trial.superseded_by_none → ⊥ }
-    ensures alone { BreaksAlone one_warming one_commit trial.superseded_by_none greatest_serves }
+/// The searchers are the generations from 1 on.
+pub fn skipped_generation_is_unlawful()
+    ensures unlawful { Lawful one_warming one_commit trial.generation_is_skipped → ⊥ }
+    ensures alone { BreaksAlone one_warming one_commit trial.generation_is_skipped one_row_each }
 {}
 
-/// No searcher is registered over a greater one.
-pub fn late_registration_is_unlawful()
-    ensures unlawful { Lawful two_warming two_commits trial.registered_too_late → ⊥ }
-    ensures alone { BreaksAlone two_warming two_commits trial.registered_too_late greatest_serves }
-{}
-
-/// A document is added, committed and found: the output is lawful, the query's row alone tells a
-/// document, and the text is spelled out.
-pub fn worked_output_is_lawful()
-    ensures lawful { Lawful one_warming add_commit_query worked }
-    ensures found { map (λ r. r.found) worked.requests ≡ 0 ∷ 0 ∷ 1 ∷ [] }
-    ensures docs { map (λ r. r.docs) worked.requests ≡ 0 ∷ 0 ∷ 1 ∷ [] }
-    ensures text { output_text worked ≡ worked_text }
+/// Places are taken once: two adds may not tell the same.
+pub fn shared_place_is_unlawful()
+    ensures unlawful { Lawful one_warming adds_of_two trial.place_is_shared → ⊥ }
+    ensures alone { BreaksAlone one_warming adds_of_two trial.place_is_shared one_history }
 {}
 
 /// The openings ascend with the generations.
@@ -78,6 +54,24 @@ pub fn swapped_places_are_unlawful()
     ensures alone { BreaksAlone one_warming two_adds trial.places_are_swapped clients_orders }
 {}
 
+/// An update of a later phase has the greater place.
+pub fn swapped_phases_are_unlawful()
+    ensures unlawful { Lawful one_warming adds_in_phases trial.phases_are_swapped → ⊥ }
+    ensures alone { BreaksAlone one_warming adds_in_phases trial.phases_are_swapped clients_orders }
+{}
+
+/// A client's requests come behind the end of the searcher for which it has waited.
+pub fn client_that_does_not_wait_is_unlawful()
+    ensures unlawful { Lawful one_warming commit_then_add trial.client_did_not_wait → ⊥ }
+    ensures alone { BreaksAlone one_warming commit_then_add trial.client_did_not_wait clients_orders }
+{}
+
+/// The requests of a phase come behind the ends of all searchers that were opened before it.
+pub fn phase_that_does_not_wait_is_unlawful()
+    ensures unlawful { Lawful one_warming commit_then_phase trial.phase_did_not_wait → ⊥ }
+    ensures alone { BreaksAlone one_warming commit_then_phase trial.phase_did_not_wait clients_orders }
+{}
+
 /// An accepted add has a place.
 pub fn add_without_place_is_unlawful()
     ensures unlawful { Lawful one_warming two_adds trial.add_has_no_place → ⊥ }
@@ -90,6 +84,24 @@ pub fn accepted_bad_add_is_unlawful()
     ensures alone { BreaksAlone one_warming bad_add trial.bad_add_is_accepted answers }
 {}
 
+/// An update for which there was no memory takes no place.
+pub fn placed_add_without_memory_is_unlawful()
+    ensures unlawful { Lawful one_warming one_add trial.placed_without_memory → ⊥ }
+    ensures alone { BreaksAlone one_warming one_add trial.placed_without_memory answers }
+{}
+
+/// A searcher is superseded by none but a greater one.
+pub fn causeless_superseding_is_unlawful()
+    ensures unlawful { Lawful one_warming one_commit trial.superseded_by_none → ⊥ }
+    ensures alone { BreaksAlone one_warming one_commit trial.superseded_by_none greatest_serves }
+{}
+
+/// No searcher is registered over a greater one.
+pub fn late_registration_is_unlawful()
+    ensures unlawful { Lawful two_warming two_commits trial.registered_too_late → ⊥ }
+    ensures alone { BreaksAlone two_warming two_commits trial.registered_too_late greatest_serves }
+{}
+
 /// A commit is refused for too many warming searchers only where there are as many.
 pub fn causeless_refusal_is_unlawful()
     ensures unlawful { Lawful one_warming one_commit trial.refused_without_cause → ⊥ }
@@ -100,6 +112,12 @@ pub fn causeless_refusal_is_unlawful()
 pub fn opening_of_nothing_is_unlawful()
     ensures unlawful { Lawful one_warming one_commit trial.opened_nothing → ⊥ }
     ensures alone { BreaksAlone one_warming one_commit trial.opened_nothing answers }
+{}
+
+/// A refused commit is told which searchers are warming.
+pub fn another_warming_told_is_unlawful()
+    ensures unlawful { Lawful one_warming two_commits trial.another_warming_told → ⊥ }
+    ensures alone { BreaksAlone one_warming two_commits trial.another_warming_told answers }
 {}
 
 /// No more searchers are warming than may be.
@@ -120,16 +138,16 @@ pub fn reply_of_another_view_is_unlawful()
     ensures alone { BreaksAlone one_warming add_commit_query trial.reply_of_another_view answers }
 {}
 
+/// A reply has the documents that were found, and not others in their number.
+pub fn reply_with_another_document_is_unlawful()
+    ensures unlawful { Lawful one_warming add_commit_query trial.reply_with_another_document → ⊥ }
+    ensures alone { BreaksAlone one_warming add_commit_query trial.reply_with_another_document answers }
+{}
+
 /// A query is served from no searcher before that for which its client has waited.
 pub fn service_from_before_is_unlawful()
     ensures unlawful { Lawful one_warming add_commit_query trial.served_from_before → ⊥ }
     ensures alone { BreaksAlone one_warming add_commit_query trial.served_from_before answers }
-{}
-
-/// An update of a later phase has the greater place.
-pub fn swapped_phases_are_unlawful()
-    ensures unlawful { Lawful one_warming adds_in_phases trial.phases_are_swapped → ⊥ }
-    ensures alone { BreaksAlone one_warming adds_in_phases trial.phases_are_swapped clients_orders }
 {}
 
 /// A client's later query is served from no earlier generation.
@@ -138,44 +156,26 @@ pub fn backward_service_is_unlawful()
     ensures alone { BreaksAlone one_warming queries_and_commit trial.served_backwards answers }
 {}
 
-/// An update for which there was no memory takes no place.
-pub fn placed_add_without_memory_is_unlawful()
-    ensures unlawful { Lawful one_warming one_add trial.placed_without_memory → ⊥ }
-    ensures alone { BreaksAlone one_warming one_add trial.placed_without_memory answers }
-{}
-
-/// A refused commit is told which searchers are warming.
-pub fn another_warming_told_is_unlawful()
-    ensures unlawful { Lawful one_warming two_commits trial.another_warming_told → ⊥ }
-    ensures alone { BreaksAlone one_warming two_commits trial.another_warming_told answers }
-{}
-
-/// A reply has the documents that were found, and not others in their number.
-pub fn reply_with_another_document_is_unlawful()
-    ensures unlawful { Lawful one_warming add_commit_query trial.reply_with_another_document → ⊥ }
-    ensures alone { BreaksAlone one_warming add_commit_query trial.reply_with_another_document answers }
-{}
-
-/// The searchers are the generations from 1 on.
-pub fn skipped_generation_is_unlawful()
-    ensures unlawful { Lawful one_warming one_commit trial.generation_is_skipped → ⊥ }
-    ensures alone { BreaksAlone one_warming one_commit trial.generation_is_skipped one_row_each }
-{}
-
-/// A client's requests come behind the end of the searcher for which it has waited.
-pub fn client_that_does_not_wait_is_unlawful()
-    ensures unlawful { Lawful one_warming commit_then_add trial.client_did_not_wait → ⊥ }
-    ensures alone { BreaksAlone one_warming commit_then_add trial.client_did_not_wait clients_orders }
-{}
-
-/// The requests of a phase come behind the ends of all searchers that were opened before it.
-pub fn phase_that_does_not_wait_is_unlawful()
-    ensures unlawful { Lawful one_warming commit_then_phase trial.phase_did_not_wait → ⊥ }
-    ensures alone { BreaksAlone one_warming commit_then_phase trial.phase_did_not_wait clients_orders }
-{}
-
 /// The tickets of a client's queries on one generation rise.
 pub fn descending_tickets_are_unlawful()
     ensures unlawful { Lawful one_warming two_queries trial.tickets_descend → ⊥ }
     ensures alone { BreaksAlone one_warming two_queries trial.tickets_descend answers }
+{}
+
+/// Tickets count from 0.
+pub fn skipped_ticket_is_unlawful()
+    ensures unlawful { Lawful one_warming add_commit_query trial.ticket_is_skipped → ⊥ }
+    ensures alone { BreaksAlone one_warming add_commit_query trial.ticket_is_skipped tickets }
+{}
+
+/// A searcher above the first is warmed from one.
+pub fn warming_from_none_is_unlawful()
+    ensures unlawful { Lawful one_warming add_commit_query trial.warmed_from_none → ⊥ }
+    ensures alone { BreaksAlone one_warming add_commit_query trial.warmed_from_none warmings }
+{}
+
+/// No searcher is warmed from itself, since it is not current yet.
+pub fn warming_from_itself_is_unlawful()
+    ensures unlawful { Lawful one_warming add_commit_query trial.warmed_from_itself → ⊥ }
+    ensures alone { BreaksAlone one_warming add_commit_query trial.warmed_from_itself warmings }
 {}
