@@ -12,7 +12,7 @@ use Rattle.script_form.specs.Requests.{asked_of}
 use Rattle.run_laws.specs.Rows.{add, query, commit, RequestRow}
 use Rattle.run_laws.specs.Places.{view_of, warming}
 use Rattle.run_laws.specs.Lawful.{Shows}
-use Rattle.run_laws.specs.Trials.{Law, one_row_each, one_history, clients_orders, answers, greatest_serves, tickets, warmings, Keeps, BreaksAlone, told_of, one_warming, two_warming, two_fields, asked_x, served, row, document_a, document_b, add_commit_query, add_has_no_place, adds_in_phases, adds_of_two, another_warming_told, bad_add, bad_add_is_accepted, client_did_not_wait, commit_then_add, commit_then_phase, generation_is_skipped, one_add, one_commit, one_query, opened_nothing, openings_descend, phase_did_not_wait, phases_are_swapped, place_is_shared, placed_without_memory, places_are_swapped, queries_and_commit, refused_without_cause, registered_too_late, reply_of_another_view, reply_with_another_document, row_is_missing, served_backwards, served_from_before, served_from_none, superseded_by_none, ticket_is_skipped, tickets_descend, two_adds, two_commits, two_queries, warmed_from_itself, warmed_from_none, warms_too_many}
+use Rattle.run_laws.specs.Trials.{Law, one_row_each, one_history, clients_orders, answers, greatest_serves, tickets, warmings, Keeps, BreaksAlone, told_of, one_warming, two_warming, two_fields, asked_x, served, row, document_a, document_b, add_commit_query, add_has_no_place, adds_in_phases, adds_of_two, another_warming_told, bad_add, bad_add_is_accepted, client_did_not_wait, commit_then_add, commit_then_phase, first_ends_first, generation_is_skipped, one_add, one_commit, one_query, opened_by_nobody, opened_nothing, openings_descend, phase_did_not_wait, phases_are_swapped, place_is_shared, placed_without_memory, places_are_swapped, queries_and_commit, refused_without_cause, registered_too_late, reply_of_another_view, reply_with_another_document, row_is_missing, served_backwards, served_from_before, served_from_none, superseded_by_none, ticket_is_skipped, tickets_descend, two_adds, two_commits, two_queries, warmed_from_itself, warmed_from_none, warms_too_many}
 use Rattle.run_laws.proofs.Worked.{shows, tells, tells_added, tells_committed, tells_served, add_answered, found_rows, found_history, found_orders, found_answers, found_serves, found_warmings, finds_one, one_answer}
 
 row_is_missing_others : (other : Law) → other ≢ one_row_each → Keeps one_warming add_commit_query row_is_missing other
@@ -59,6 +59,36 @@ place_is_shared_breaks h = grind (arith, common_steps)
 
 pub place_is_shared_alone : BreaksAlone one_warming adds_of_two place_is_shared one_history
 place_is_shared_alone = record { breaks = place_is_shared_breaks; keeps_others = place_is_shared_others }
+
+first_ends_first_others : (other : Law) → other ≢ one_history → Keeps one_warming [] first_ends_first other
+first_ends_first_others one_row_each differs = search (rules, shows)
+first_ends_first_others one_history differs = absurd (differs refl)
+first_ends_first_others clients_orders differs = tt
+first_ends_first_others answers differs = tt
+first_ends_first_others greatest_serves differs = search rules
+first_ends_first_others tickets differs = search rules
+first_ends_first_others warmings differs = search rules
+
+first_ends_first_breaks : Keeps one_warming [] first_ends_first one_history → ⊥
+first_ends_first_breaks h = grind (arith, common_steps)
+
+pub first_ends_first_alone : BreaksAlone one_warming [] first_ends_first one_history
+first_ends_first_alone = record { breaks = first_ends_first_breaks; keeps_others = first_ends_first_others }
+
+opened_by_nobody_others : (other : Law) → other ≢ one_history → Keeps one_warming one_add opened_by_nobody other
+opened_by_nobody_others one_row_each differs = search (rules, shows)
+opened_by_nobody_others one_history differs = absurd (differs refl)
+opened_by_nobody_others clients_orders differs = search rules
+opened_by_nobody_others answers differs = search (rules, add_answered)
+opened_by_nobody_others greatest_serves differs = search rules
+opened_by_nobody_others tickets differs = search rules
+opened_by_nobody_others warmings differs = (refl, ((refl, (2, omega arith, omega arith, refl)), tt))
+
+opened_by_nobody_breaks : Keeps one_warming one_add opened_by_nobody one_history → ⊥
+opened_by_nobody_breaks h = grind (arith, common_steps)
+
+pub opened_by_nobody_alone : BreaksAlone one_warming one_add opened_by_nobody one_history
+opened_by_nobody_alone = record { breaks = opened_by_nobody_breaks; keeps_others = opened_by_nobody_others }
 
 openings_descend_others : (other : Law) → other ≢ one_history → Keeps two_warming two_commits openings_descend other
 openings_descend_others one_row_each differs = search (rules, shows)

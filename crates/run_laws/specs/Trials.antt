@@ -236,6 +236,14 @@ generation_is_skipped = record {
 abbrev pub place_is_shared : Output
 place_is_shared = record { requests = added_at 1 1 2 ∷ added_at 2 2 2 ∷ []; searchers = first 0 ∷ [] }
 
+-- the first searcher was opened behind its own end
+abbrev pub first_ends_first : Output
+first_ends_first = record { requests = []; searchers = searcher 1 1 0 true 0 None ∷ [] }
+
+-- no commit opened the second searcher: the place is an add's
+abbrev pub opened_by_nobody : Output
+opened_by_nobody = record { requests = added_at 1 1 2 ∷ []; searchers = first 1 ∷ searcher 2 2 3 true 0 (Some (1, 0)) ∷ [] }
+
 -- generation 3 was opened before generation 2
 abbrev pub openings_descend : Output
 openings_descend = record {

@@ -42,6 +42,18 @@ pub fn shared_place_is_unlawful()
     ensures alone { BreaksAlone one_warming adds_of_two trial.place_is_shared one_history }
 {}
 
+/// The first searcher is opened at place 0 and registered at place 1.
+pub fn first_end_before_its_opening_is_unlawful()
+    ensures unlawful { Lawful one_warming [] trial.first_ends_first → ⊥ }
+    ensures alone { BreaksAlone one_warming [] trial.first_ends_first one_history }
+{}
+
+/// Each later searcher is opened by a commit.
+pub fn opening_by_nobody_is_unlawful()
+    ensures unlawful { Lawful one_warming one_add trial.opened_by_nobody → ⊥ }
+    ensures alone { BreaksAlone one_warming one_add trial.opened_by_nobody one_history }
+{}
+
 /// The openings ascend with the generations.
 pub fn descending_openings_are_unlawful()
     ensures unlawful { Lawful two_warming two_commits trial.openings_descend → ⊥ }
