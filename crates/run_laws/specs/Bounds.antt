@@ -1,12 +1,12 @@
 -- Between which places a request was served.
-use Rattle.std.specs.Prelude.{ℕ, List, [], ◌∷◌, ◌++◌, Bool, true, false, ◌&&◌, ◌||◌, ◌==◌, nat_lt, if◌then◌else◌, min, max, fold, Option, Some, None}
+use Rattle.std.specs.Prelude.{ℕ, List, [], ◌++◌, Bool, true, false, ◌||◌, ◌==◌, nat_lt, if◌then◌else◌, min, max, fold, Option, Some, None}
 use Rattle.std.specs.List.{flat_map, filter_map}
 use Rattle.std.specs.Option.{option_to_list, option_and_then}
 use Rattle.std.specs.Result.{result_ok}
-use Rattle.run_laws.specs.Rows.{Verb, add, delete, query, commit, RequestRow, SearcherRow, Output}
-use Rattle.run_laws.specs.Requests.{Request, Told}
+use Rattle.run_laws.specs.Rows.{Verb, add, delete, query, commit, SearcherRow}
+use Rattle.run_laws.specs.Requests.{Told}
 use Rattle.run_laws.specs.Reading.{commit_of, CommitForm}
-use Rattle.run_laws.specs.Places.{ended_of, place_count}
+use Rattle.run_laws.specs.Places.{ended_of}
 
 abbrev pub is_commit : Verb → Bool
 is_commit add = false

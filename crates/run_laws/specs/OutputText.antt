@@ -1,8 +1,9 @@
 -- The text of an output: a JSON object a line, its members in the order of their names' bytes.
-use Rattle.std.specs.Prelude.{ℕ, List, [], ◌∷◌, ◌++◌, Bool, true, false, if◌then◌else◌, Option, Some, None, codes, decimal}
+use Rattle.std.specs.Prelude.{◌≡◌, ℕ, List, [], ◌∷◌, ◌++◌, Bool, true, false, if◌then◌else◌, Option, Some, None, codes, decimal}
 use Rattle.std.specs.List.{flat_map}
 use Rattle.json.specs.Print.{quoted}
-use Rattle.serde_json.specs.Written.{comma_if}
+use Rattle.serde_json.specs.Data.{object, Members, no_members, member}
+use Rattle.serde_json.specs.Written.{comma_if, compact_text}
 use Rattle.run_laws.specs.Rows.{RequestRow, SearcherRow, Output}
 
 -- a member's name and the text of its value
@@ -52,3 +53,12 @@ searcher_members s =
 abbrev pub output_text : Output → List ℕ
 output_text o =
     flat_map (λ r. object_line (request_members r)) o.requests ++ flat_map (λ s. object_line (searcher_members s)) o.searchers
+
+-- JSON members, each with the text of its value
+abbrev pub written_members : Members → List Member
+written_members no_members = []
+written_members (member name d ms) = (name, compact_text d) ∷ written_members ms
+
+-- the text is that of a JSON object and a line feed
+abbrev pub IsObjectLine : List ℕ → Type 0
+IsObjectLine text = (ms : Members) × (text ≡ compact_text (object ms) ++ 10 ∷ [])

@@ -1,13 +1,13 @@
 -- The places of the journal, read off the rows.
-use Rattle.std.specs.Prelude.{ℕ, zero, suc, ◌+◌, List, [], ◌∷◌, ◌++◌, length, take, map, filter, Bool, true, false, ◌&&◌, ◌==◌, nat_lt, nat_le, if◌then◌else◌, Option, Some, None}
+use Rattle.std.specs.Prelude.{ℕ, zero, suc, ◌+◌, List, [], ◌∷◌, ◌++◌, length, take, map, filter, Bool, false, ◌&&◌, ◌==◌, nat_lt, nat_le, if◌then◌else◌, Option, Some, None}
 use Rattle.std.specs.List.{filter_map}
 use Rattle.std.specs.Option.{option_map_or}
 use Rattle.doc_model.specs.Document.{Document}
 use Rattle.field_schema.specs.Schema.{Fields}
 use Rattle.search_model.specs.Live.{Change, nothing, view_at}
 use Rattle.std.specs.Result.{result_unwrap_or}
-use Rattle.run_laws.specs.Rows.{Verb, add, delete, query, commit, RequestRow, SearcherRow, Output}
-use Rattle.run_laws.specs.Requests.{Request, Told}
+use Rattle.run_laws.specs.Rows.{SearcherRow, Output}
+use Rattle.run_laws.specs.Requests.{Told}
 use Rattle.run_laws.specs.Reading.{update_of}
 
 -- n numbers from a on

@@ -1,5 +1,5 @@
 -- What the bodies of requests read to, or the message of their refusal.
-use Rattle.std.specs.Prelude.{ℕ, List, [], Bool, true, false, Option, Some, None, Result, Ok, Err, codes}
+use Rattle.std.specs.Prelude.{ℕ, List, [], Bool, true, Result, Ok, Err, codes}
 use Rattle.std.specs.Option.{option_map_or}
 use Rattle.std.specs.Result.{result_map_both}
 use Rattle.field_schema.specs.Schema.{Fields}

@@ -1,5 +1,5 @@
 -- The requests of a script, and each with its row.
-use Rattle.std.specs.Prelude.{ℕ, ◌+◌, List, [], ◌∷◌, ◌++◌, Bool, true, false, Option, Some, None}
+use Rattle.std.specs.Prelude.{ℕ, ◌+◌, List, [], ◌∷◌, ◌++◌, Option, Some, None}
 use Rattle.std.specs.Option.{option_to_list}
 use Rattle.script_form.specs.declared.script.Line.{Line}
 use Rattle.script_form.specs.declared.script.What.{What}

@@ -1,0 +1,5 @@
+pub mod Worked
+pub mod Alone
+pub mod Written
+pub mod FirstPlace
+pub mod Others
