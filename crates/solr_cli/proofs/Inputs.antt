@@ -1,11 +1,8 @@
 -- What follows for an input that reads.
-use Rattle.std.proofs.Common.{◌≡◌, refl, sym, ◌∙◌, ap, ℕ, suc, ◌+◌, ◌<◌, ◌≤◌, List, [], ◌∷◌, length, Bool, true, false, ◌||◌, cond, nat_lt, Option, Some, None, Result, Ok, Err, option_and_then, option_map, arith}
+use Rattle.std.proofs.Common.{◌≡◌, refl, sym, ◌∙◌, ap, ℕ, suc, ◌+◌, ◌<◌, ◌≤◌, List, [], ◌∷◌, length, Bool, true, false, ◌||◌, cond, nat_lt, Option, Some, None, Result, Ok, Err, option_map, arith}
 use Rattle.std.proofs.lemmas.Bool.Decides.{nat_tests}
 use Rattle.std.specs.Option.{option_map_or}
-use Rattle.std.specs.List.{list_any}
 use Rattle.std.specs.Str.{is_utf8}
-use Rattle.std.specs.declared.option.Option.TheVariants as option
-use Rattle.serde_json.specs.Read.{read}
 use Rattle.field_schema.specs.Schema.{Fields}
 use Rattle.script_form.specs.declared.config.Config.{Config}
 use Rattle.script_form.specs.declared.script.Line.{Line}
@@ -13,7 +10,7 @@ use Rattle.script_form.specs.declared.script.LineFault.{LineFault}
 use Rattle.script_form.specs.declared.script.LineName.TheVariants.{NotBuilt}
 use Rattle.script_form.specs.declared.script.What.{What}
 use Rattle.script_form.specs.Lines.{most_input, most_lines, too_large, lines_too_large, script_lines, has_marker, config_text}
-use Rattle.script_form.specs.ReadConfig.{default_config, plain_schema, only_member, config_in, config_of}
+use Rattle.script_form.specs.ReadConfig.{default_config, config_in, config_of}
 use Rattle.script_form.specs.ReadScript.{what_of, before_others, lines_from, script_of}
 
 first_false : (a b : Bool) → (a || b) ≡ false → a ≡ false

@@ -1,5 +1,5 @@
 -- What the bytes of an input are answered.
-use Rattle.std.specs.Prelude.{◌≡◌, ℕ, List, false, true, Option, Some, None, Result, Ok, Err, codes, ⊤}
+use Rattle.std.specs.Prelude.{◌≡◌, ℕ, List, false, true, Some, None, Ok, Err, codes, ⊤}
 use Rattle.script_form.specs.declared.config.Config.{Config}
 use Rattle.script_form.specs.declared.script.Line.{Line}
 use Rattle.script_form.specs.declared.script.LineFault.{LineFault}

@@ -1,5 +1,5 @@
 -- How an input is read.
-use Rattle.std.specs.Prelude.{◌≡◌, ℕ, ◌+◌, List, ◌++◌, length, Option, Result, Ok, Err, ⊤}
+use Rattle.std.specs.Prelude.{◌≡◌, ℕ, List, ◌++◌, length, Option, Result, Ok, Err, ⊤}
 use Rattle.std.specs.Io.KnownBytes.{Consumes, IsAtEnd}
 use Rattle.rt_edge.specs.Faults.{Rose}
 use Rattle.solr_cli.specs.declared.reading.ReadRefusal.{ReadRefusal}

@@ -1,5 +1,4 @@
-use Rattle.std.proofs.Common.{◌≡◌, ◌++◌, take, drop, ap, ◌∙◌, arith, subst, sym}
-use Rattle.std.specs.Io.KnownBytes.{Appends}
+use Rattle.std.proofs.Common.{◌++◌, take, arith}
 use Rattle.solr_cli.proofs.Parts.{appends_kept, appends_more, front_more, on_err, part_of}
 use Rattle.solr_cli.proofs.writing.write_all.Goals as goal
 

@@ -1,4 +1,4 @@
-use Rattle.std.proofs.Common.{◌≡◌, subst, sym}
+use Rattle.std.proofs.Common.{subst, sym}
 use Rattle.std.specs.Io.KnownBytes.{Appends}
 use Rattle.solr_cli.proofs.Parts.{on_err, whole_part}
 use Rattle.solr_cli.proofs.writing.write_text.Goals as goal
