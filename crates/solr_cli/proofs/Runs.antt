@@ -25,8 +25,8 @@ run_of : (xs ys bytes : List ℕ) (p : Output × Text) → Consumes (Some xs) (S
 run_of xs ys bytes p h end (config, script, reads, lawful, text) =
     let all = is_all xs ys bytes h end reads.within in
     record {
-        ended = ap (λ t. Some t) (end (within_input bytes reads.within));
-        ran = (config, script, record { reads = subst (λ t. ReadsTo t config script) all reads; lawful = lawful })
+      ended = ap (λ t. Some t) (end (within_input bytes reads.within));
+      ran = (config, script, record { reads = subst (λ t. ReadsTo t config script) all reads; lawful = lawful });
     }
 
 pub ran_over : (old new : Option (List ℕ)) (bytes : List ℕ) (r : Result (Output × Text) Status) → Consumes old new bytes → (length bytes ≤ most_input → IsAtEnd new)

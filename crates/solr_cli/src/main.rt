@@ -4,6 +4,8 @@
 mod answer;
 mod reading;
 mod status;
+#[cfg(test)]
+mod tests;
 mod top;
 mod writing;
 
