@@ -9,36 +9,46 @@ mod tests;
 mod top;
 mod writing;
 
+use field_schema::NoMemory;
 use rt_edge::{OpenGate, StdSink, StdSource};
 pub use status::{Status, status_line};
 use std::env;
 use std::env::Env;
+use std::io::ErrorKind;
 use std::process::ExitCode;
 pub use top::{Ran, run_top};
 
-/// The words after the program's name; none of them where they are no text.
-fn words_of(rt: &(impl Env + AllocGlobal)) -> Vec<String> {
+/// The words after the program's name; none of them where one of them is no text.
+fn words_of(rt: &(impl Env + AllocGlobal)) -> Result<Vec<String>, NoMemory> {
     let mut words = Vec::new(rt.alloc());
-    let Ok(args) = env::args(rt) else {
-        return words;
-    };
-    for word in args.skip(1) {
-        if words.push(word).is_err() {
-            return Vec::new(rt.alloc());
+    match env::args(rt) {
+        Ok(args) => {
+            for word in args.skip(1) {
+                words.push(word)?;
+            }
+        }
+        Err(error) => {
+            if error.kind() == ErrorKind::OutOfMemory {
+                return Err(NoMemory);
+            }
         }
     }
-    words
+    Ok(words)
 }
 
 fn main(rt: HostRuntime) -> ExitCode {
-    let words = words_of(&rt);
-    let mut input = StdSource::new(rt.stdin());
-    let mut output = StdSink::new(rt.stdout());
-    let ran = run_top(rt.alloc(), &words, &mut input, &mut output, &OpenGate);
-    if !matches!(&ran.status, Status::Done) {
-        if let Ok(line) = status_line(rt.alloc(), &ran.status) {
+    let status = match words_of(&rt) {
+        Ok(words) => {
+            let mut input = StdSource::new(rt.stdin());
+            let mut output = StdSink::new(rt.stdout());
+            run_top(rt.alloc(), &words, &mut input, &mut output, &OpenGate).status
+        }
+        Err(NoMemory) => Status::NoMemory,
+    };
+    if !matches!(&status, Status::Done) {
+        if let Ok(line) = status_line(rt.alloc(), &status) {
             let _ = rt.eprint(line.get());
         }
     }
-    ExitCode::from(ran.status.code())
+    ExitCode::from(status.code())
 }
