@@ -1,5 +1,5 @@
 -- A commit's body is empty or not.
-use Rattle.std.proofs.Common.{◌≡◌, refl, ℕ, suc, List, [], ◌∷◌, length, Bool, true, false, ◌==◌, Ok, Err, codes, sym, arith}
+use Rattle.std.proofs.Common.{◌≡◌, refl, ℕ, suc, List, [], ◌∷◌, length, true, false, ◌==◌, Ok, Err, codes, sym, arith}
 use Rattle.std.proofs.lemmas.Bool.{false≢true}
 use Rattle.std.proofs.lemmas.Bool.Decides.{nat_tests}
 use Rattle.run_laws.specs.Reading.{commit_of}

@@ -1,4 +1,5 @@
-pub mod PendingSlots
+pub mod Slots
+pub mod Seen
 pub mod Words
 pub mod Floats
 pub mod Filters

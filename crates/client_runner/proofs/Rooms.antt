@@ -1,5 +1,5 @@
 -- Room for one line less after a line.
-use Rattle.std.proofs.Common.{◌≡◌, refl, ℕ, suc, ◌+◌, ◌*◌, ◌<◌, ◌≤◌, ◌^◌, List, [], ◌∷◌, ◌++◌, length, Bool, true, false, not, filter, cond, Option, Some, None, Result, Ok, Err, arith, length-append}
+use Rattle.std.proofs.Common.{ℕ, suc, ◌+◌, ◌≤◌, List, [], ◌∷◌, length, Bool, true, false, not, filter, cond, Option, Some, None, Result, Ok, Err, arith, length-append}
 use Rattle.field_schema.specs.declared.key.Key.TheVariants.{Str}
 use Rattle.field_schema.specs.Schema.{Fields}
 use Rattle.doc_model.specs.Document.{Document, keys_at}

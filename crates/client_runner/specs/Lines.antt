@@ -1,6 +1,5 @@
 -- The lines of the output, piece by piece.
 use Rattle.std.specs.Prelude.{◌≡◌, ℕ, List, [], ◌++◌, Bool, true, false, not, Option, Some, None, codes, decimal}
-use Rattle.std.specs.Option.{option_map}
 use Rattle.run_laws.specs.Rows.{RequestRow, SearcherRow}
 
 -- the text has grown by a piece

@@ -1,6 +1,5 @@
 -- The runner's state as the serial run's.
 use Rattle.std.specs.Prelude.{◌≡◌, ℕ, ◌+◌, ◌*◌, ◌<◌, ◌^◌, List, length, map, Option}
-use Rattle.std.specs.Arc.{arc_value}
 use Rattle.field_schema.specs.Schema.{Fields}
 use Rattle.doc_model.specs.Document.{Document}
 use Rattle.query_tree.specs.declared.query.Query.{Query}
@@ -17,8 +16,8 @@ use Rattle.client_runner.specs.Views.{verb_view, request_view, searcher_view}
 
 abbrev pub standing : Runner → Standing
 standing r = record {
-  docs = r.pending.docs;
-  served = map arc_value r.served.items;
+  docs = r.index.docs;
+  served = r.index.served;
   place = r.place;
   rows = map request_view r.rows.items;
   earlier = map searcher_view r.earlier.items;
@@ -64,5 +63,5 @@ pub record HasRoom (n : ℕ) (st : Standing) : Type 0 where
 
 -- there is room for n more lines, and the documents are kept by the schema's unique key
 pub record CanGoOn (s : Fields) (n : ℕ) (r : Runner) : Type 0 where
-  pub id : r.pending.id ≡ s.key
+  pub id : r.index.id ≡ s.key
   pub room : HasRoom n (standing r)

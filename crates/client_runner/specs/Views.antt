@@ -1,5 +1,4 @@
 -- The program's rows as plain rows.
-use Rattle.std.specs.Prelude.{ℕ, List, Option, Some, None}
 use Rattle.std.specs.Option.{option_map}
 use Rattle.run_laws.specs.Rows as plain
 use Rattle.client_runner.specs.declared.rows.Verb.{Verb}

@@ -3,9 +3,9 @@
 //! The runner is serial: it takes the lines in the order of the script and finishes each searcher at once.
 #![tactic(auto)]
 
+mod index;
 mod laws;
 mod output;
-mod pending;
 mod reply;
 mod rows;
 mod run;

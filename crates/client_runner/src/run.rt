@@ -23,7 +23,7 @@ impl Runner {
         body: &Text,
     ) -> Result<(), NoMemory>
         requires { CanGoOn schema.now 1 self.old }
-        ensures id { self.new.pending.id ≡ self.old.pending.id }
+        ensures id { self.new.index.id ≡ self.old.index.id }
         ensures served { OnOk result (standing self.new ≡ commit_as schema.now (request_of head body.now) (standing self.old) (commit_of body.now)) }
     {
         if body.get().is_empty() {
@@ -36,7 +36,7 @@ impl Runner {
     /// Serves a line in its turn.
     fn step(&mut self, alloc: Global, schema: &Schema, line: &Line) -> Result<(), NoMemory>
         requires { CanGoOn schema.now 1 self.old }
-        ensures id { self.new.pending.id ≡ self.old.pending.id }
+        ensures id { self.new.index.id ≡ self.old.index.id }
         ensures served { OnOk result (standing self.new ≡ serve schema.now (standing self.old) (request_as 0 line.now.number line.now.what)) }
     {
         match &line.what {
@@ -81,8 +81,7 @@ impl Runner {
         ensures { IfOk result (λ o. output_view o ≡ output_at (standing self)) }
     {
         let Runner {
-            pending: _,
-            served: _,
+            index: _,
             place: _,
             rows,
             mut earlier,

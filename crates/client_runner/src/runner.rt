@@ -11,17 +11,15 @@ ghost use Rattle.run_laws.specs.Reading.{query_of};
 ghost use Rattle.client_runner.specs.Serial.{open_next, query_as, refuse, start, told_too, update};
 ghost use Rattle.client_runner.specs.Standings.{CanGoOn, Shown, found_first_ten, request_of, shown_row, standing};
 
-use crate::pending::Pending;
+use crate::index::Index;
 use crate::reply::{
     accepted_value, doc_message_text, docs_value, found_value, refused_value, text_of,
 };
 use crate::rows::{RequestRow, SearcherRow, Verb};
-use crate::search::first_matches;
 use doc_model::Doc;
 use field_schema::{FieldNo, NoMemory, Schema, Text};
 use script_form::query_term;
 use std::alloc::Global;
-use std::sync::Arc;
 
 /// A request as its line names it.
 #[derive(Clone, Copy)]
@@ -43,8 +41,7 @@ pub(crate) struct Reply {
 /// Where a serial run stands.
 #[derive(Drop)]
 pub(crate) struct Runner {
-    pub(crate) pending: Pending,
-    pub(crate) served: Vec<Arc<Doc>>,
+    pub(crate) index: Index,
     pub(crate) place: u64,
     pub(crate) rows: Vec<RequestRow>,
     pub(crate) earlier: Vec<SearcherRow>,
@@ -55,11 +52,10 @@ impl Runner {
     /// Before the first line.
     pub(crate) fn new(alloc: Global, schema: &Schema) -> Runner
         ensures start { standing result ≡ start }
-        ensures id { result.pending.id ≡ schema.now.key }
+        ensures id { result.index.id ≡ schema.now.key }
     {
         Runner {
-            pending: Pending::new(alloc, schema.key_field()),
-            served: Vec::new(alloc),
+            index: Index::new(alloc, schema.key_field()),
             place: 2,
             rows: Vec::new(alloc),
             earlier: Vec::new(alloc),
@@ -83,7 +79,7 @@ impl Runner {
         ticket: Option<u32>,
         reply: Reply,
     ) -> Result<(), NoMemory>
-        ensures id { self.new.pending.id ≡ self.old.pending.id }
+        ensures id { self.new.index.id ≡ self.old.index.id }
         ensures served { OnOk result (standing self.new ≡ told_too (standing self.old) (shown_row head place generation ticket reply)) }
     {
         self.rows.push(RequestRow {
@@ -130,18 +126,18 @@ fn refused_reply(alloc: Global, schema: &Schema, message: &str) -> Result<Reply,
     })
 }
 
-/// The reply of a query for a word in a field of these documents: the first ten that have it.
+/// The reply of a query for a word in a field, on what the current searcher sees: the first ten documents that have it.
 fn found_reply(
     alloc: Global,
     schema: &Schema,
-    served: &[Arc<Doc>],
+    index: &Index,
     field: FieldNo,
     word: &str,
 ) -> Result<Reply, NoMemory>
-    requires { length served.now < 2 ^ 32 }
-    ensures { IfOk result (Shown schema.now (found_first_ten (map arc_value served.now) (Term field (Key.Str word.now)))) }
+    requires { length index.now.served < 2 ^ 32 }
+    ensures { IfOk result (Shown schema.now (found_first_ten index.now.served (Term field (Key.Str word.now)))) }
 {
-    let (first, found) = first_matches(alloc, served, field, word, 10)?;
+    let (first, found) = index.first_matches(alloc, field, word, 10)?;
     let docs = docs_value(alloc, schema, &first)?;
     let value = found_value(alloc, docs, found as u32, 0)?;
     let text = text_of(alloc, &value)?;
@@ -162,7 +158,7 @@ impl Runner {
         head: Head,
         message: &str,
     ) -> Result<(), NoMemory>
-        ensures id { self.new.pending.id ≡ self.old.pending.id }
+        ensures id { self.new.index.id ≡ self.old.index.id }
         ensures served { (body : List ℕ) → OnOk result (standing self.new ≡ refuse schema.now (request_of head body) (standing self.old) message.now) }
     {
         let reply = refused_reply(alloc, schema, message)?;
@@ -178,7 +174,7 @@ impl Runner {
         body: &str,
     ) -> Result<(), NoMemory>
         requires { CanGoOn schema.now 1 self.old }
-        ensures id { self.new.pending.id ≡ self.old.pending.id }
+        ensures id { self.new.index.id ≡ self.old.index.id }
         ensures served { OnOk result (standing self.new ≡ update schema.now (request_of head body.now) (standing self.old) (result_map_both added doc_message (doc_of schema.now body.now))) }
     {
         match Doc::read(alloc, schema, body) {
@@ -199,11 +195,11 @@ impl Runner {
         doc: Doc,
     ) -> Result<(), NoMemory>
         requires { CanGoOn schema.now 1 self.old }
-        ensures id { self.new.pending.id ≡ self.old.pending.id }
+        ensures id { self.new.index.id ≡ self.old.index.id }
         ensures served { (body : List ℕ) → OnOk result (standing self.new ≡ update schema.now (request_of head body) (standing self.old) (Ok (added doc))) }
     {
         let reply = accepted_reply(alloc, schema)?;
-        self.pending.add(alloc, doc)?;
+        self.index.add(alloc, doc)?;
         let place = self.place;
         self.place += 1;
         self.tell(head, Some(place), None, None, reply)
@@ -217,18 +213,17 @@ impl Runner {
         head: Head,
     ) -> Result<(), NoMemory>
         requires { CanGoOn schema.now 1 self.old }
-        ensures id { self.new.pending.id ≡ self.old.pending.id }
+        ensures id { self.new.index.id ≡ self.old.index.id }
         ensures served { (body : List ℕ) → OnOk result (standing self.new ≡ open_next schema.now (request_of head body) (standing self.old)) }
     {
         let reply = accepted_reply(alloc, schema)?;
-        let served = self.pending.share(alloc)?;
+        self.index.open(alloc)?;
         let opened = self.place;
         let ticket = self.current.acquired;
         let generation = self.current.generation + 1;
         let mut last = self.current;
         last.acquired += 1;
         self.earlier.push(last)?;
-        self.served = served;
         self.current = SearcherRow {
             generation,
             opened,
@@ -250,13 +245,13 @@ impl Runner {
         body: &str,
     ) -> Result<(), NoMemory>
         requires { CanGoOn schema.now 1 self.old }
-        ensures id { self.new.pending.id ≡ self.old.pending.id }
+        ensures id { self.new.index.id ≡ self.old.index.id }
         ensures served { OnOk result (standing self.new ≡ query_as schema.now (request_of head body.now) (standing self.old) (query_of schema.now body.now)) }
     {
         let Some((field, word)) = query_term(schema, body) else {
             return self.refuse(alloc, schema, head, "NotBuilt");
         };
-        let reply = found_reply(alloc, schema, &self.served, field, word)?;
+        let reply = found_reply(alloc, schema, &self.index, field, word)?;
         let ticket = self.current.acquired;
         self.current.acquired += 1;
         let generation = self.current.generation;

@@ -1,4 +1,4 @@
-use Rattle.std.proofs.Common.{◌≡◌, [], ◌++◌, ◌∙◌, ap, sym, string_bytes}
+use Rattle.std.proofs.Common.{◌∙◌}
 use Rattle.client_runner.specs.Outputs.{output_view}
 use Rattle.client_runner.proofs.Joins.{behind_nothing, join}
 use Rattle.client_runner.proofs.LineTexts.{whole_text}

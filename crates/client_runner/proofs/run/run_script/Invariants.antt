@@ -1,4 +1,4 @@
-use Rattle.std.proofs.Common.{◌≡◌, ◌-◌, length, take, fold}
+use Rattle.std.proofs.Common.{◌≡◌, ◌-◌, take, fold}
 use Rattle.client_runner.specs.Serial.{step, start}
 use Rattle.client_runner.specs.Standings.{CanGoOn, standing}
 use Rattle.client_runner.proofs.run.run_script.Given as goal

@@ -1,4 +1,4 @@
-use Rattle.std.proofs.Common.{◌≡◌, ◌≤◌, sym, ◌∙◌, ap, length, arith, Fits, w32, map}
+use Rattle.std.proofs.Common.{sym, ◌∙◌, ap, length, map}
 use Rattle.std.proofs.lemmas.List.{length-map}
 use Rattle.std.specs.Arc.{arc_value}
 use Rattle.serde_json.specs.View.{view}
@@ -20,7 +20,7 @@ text_of-requires c =
 pub returns : goal.returns
 returns c =
     let firsts = ap (map arc_value) c.deref.ensures.value ∙ c.in_ok-first.ensures.docs in
-    shown_found c.args.schema.now (map arc_value c.args.served.now) (Term c.args.field (Str c.args.word.now)) (map arc_value c.deref.result.now)
+    shown_found c.args.schema.now c.args.index.now.served (Term c.args.field (Str c.args.word.now)) (map arc_value c.deref.result.now)
     c.in_ok-text.text (view c.in_ok-value.value) (view c.in_ok-docs.docs) c.in_ok-first.found c.len.result
     c.in_ok-text.ensures c.in_ok-value.ensures c.in_ok-docs.ensures firsts c.in_ok-first.ensures.found
     (c.len.ensures ∙ c.in_ok-first.first.ok.0 ∙ ap length (sym c.deref.ensures.value) ∙ sym (length-map c.deref.result.now arc_value))

@@ -1,4 +1,4 @@
-use Rattle.std.proofs.Common.{◌≡◌, sym, ◌∙◌}
+use Rattle.std.proofs.Common.{sym, ◌∙◌}
 use Rattle.field_schema.specs.declared.key.Key.TheVariants.{Str}
 use Rattle.query_tree.specs.Keys.{values_in}
 use Rattle.query_tree.proofs.Matching.{top_Term}

@@ -1,4 +1,3 @@
-use Rattle.std.proofs.Common.{◌≡◌, Ok, Err}
 use Rattle.client_runner.proofs.runner.Runner.add.Goals as goal
 
 -- the document was read

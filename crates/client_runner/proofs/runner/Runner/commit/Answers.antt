@@ -1,4 +1,4 @@
-use Rattle.std.proofs.Common.{◌≡◌, length, ◌==◌, true, sym, ◌∙◌, ap}
+use Rattle.std.proofs.Common.{length, ◌==◌, sym, ◌∙◌, ap}
 use Rattle.client_runner.proofs.Commits.{commit_empty, commit_full}
 use Rattle.client_runner.proofs.runner.Runner.commit.Goals as goal
 

@@ -1,4 +1,3 @@
-use Rattle.std.proofs.Common.{◌≡◌, None, sym}
 use Rattle.client_runner.proofs.runner.Runner.query.Goals as goal
 
 -- the body asks for nothing that is built

@@ -1,4 +1,3 @@
-use Rattle.std.proofs.Common.{◌≡◌}
 use Rattle.client_runner.proofs.runner.Runner.step.Goals as goal
 
 -- no delete is built yet

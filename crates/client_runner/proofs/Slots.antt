@@ -1,13 +1,13 @@
 -- The slots of documents, as a document takes the place of the one with its unique key.
 use Rattle.std.proofs.Common.{◌≡◌, ◌<◌, ℕ, suc, zero, Bool, true, false, List, [], ◌∷◌, ◌++◌, length, get_or, take, map, Option, Some, None, filter, refl, ap, sym, ◌∙◌, arith, ⊎_elim}
-use Rattle.std.specs.Prelude.{◌⊎◌, ◌+◌, IfSome, not, slice_set, slice_get}
+use Rattle.std.specs.Prelude.{◌⊎◌, ◌+◌, not, slice_set, slice_get}
 use Rattle.std.specs.Arc.{arc_value}
 use Rattle.std.specs.declared.sync.Arc.{Arc}
 use Rattle.std.specs.Cmp.Lexicographic.{pointwise, pointwise_decides, slice_cmp, lists_ties}
 use Rattle.std.specs.BTreeMap.{BTreeMap, get, Updates}
 use Rattle.std.proofs.lemmas.Bool.{true≢false}
 use Rattle.std.proofs.lemmas.Option.{none-some, same_Some, slice_get_read}
-use Rattle.std.proofs.lemmas.List.{length-set, length-append, map-append, set-append_left, set_at, take_more}
+use Rattle.std.proofs.lemmas.List.{length-set, map-append, set-append_left, take_more}
 use mathlib.Core.Logic.{inl, inr}
 use Rattle.field_schema.specs.declared.key.Key.{Key}
 use Rattle.field_schema.specs.Keys.{key_eq, key_cmp}
@@ -53,12 +53,6 @@ module _ {Z : Type 0} where
   key_in-push id [] s i keys h = absurd (none-some keys h)
   key_in-push id (x ∷ slots) s zero keys h = h
   key_in-push id (x ∷ slots) s (suc i) keys h = key_in-push id slots s i keys h
-
-  pub key_in-pushed_none : (id : ℕ) (slots : List (Option (Arc Document Z))) (i : ℕ) → key_in id (slots ++ None ∷ []) i ≡ key_in id slots i
-  key_in-pushed_none id [] zero = refl
-  key_in-pushed_none id [] (suc i) = refl
-  key_in-pushed_none id (x ∷ slots) zero = refl
-  key_in-pushed_none id (x ∷ slots) (suc i) = key_in-pushed_none id slots i
 
   pub key_in-last : (id : ℕ) (slots : List (Option (Arc Document Z))) (a : Arc Document Z) (n : ℕ) → n ≡ length slots → key_in id (slots ++ Some a ∷ []) n ≡ Some (keys_at (arc_value a) id)
   key_in-last id [] a zero at_end = refl
@@ -152,10 +146,10 @@ module _ {Z : Type 0} where
 
   -- ---- the map and the slots after a document is added
 
-  pub IsPlaced-pushed_none : (id : ℕ) (slots : List (Option (Arc Document Z))) (m n : BTreeMap (List Key) ℕ) → IsPlaced id slots m → n.entries ≡ m.entries → IsPlaced id (slots ++ None ∷ []) n
-  IsPlaced-pushed_none id slots m n placed same = record {
-    leads = λ keys i h. key_in-pushed_none id slots i ∙ placed.leads keys i (rw (sym same) h);
-    found = λ keys i h. rw same (placed.found keys i (sym (key_in-pushed_none id slots i) ∙ h));
+  pub IsPlaced-same : (id : ℕ) (slots : List (Option (Arc Document Z))) (m n : BTreeMap (List Key) ℕ) → IsPlaced id slots m → n.entries ≡ m.entries → IsPlaced id slots n
+  IsPlaced-same id slots m n placed same = record {
+    leads = λ keys i h. placed.leads keys i (rw (sym same) h);
+    found = λ keys i h. rw same (placed.found keys i h);
   }
 
   pub IsPlaced-put : (id : ℕ) (keys : List Key) (slots ys : List (Option (Arc Document Z))) (a : Arc Document Z) (m n : BTreeMap (List Key) ℕ) (last : ℕ)
@@ -184,13 +178,10 @@ module _ {Z : Type 0} where
           (λ new. ap (get (slice_cmp key_cmp) n) (sym new.1 ∙ sym of_doc) ∙ here ∙ ap Some (end ∙ sym new.0))
           (key_in-pushed id ys a i k h)
 
-  -- the slots as the code leaves them: a new one, the older document's emptied, and the new one filled
-  pub put-slots : (slots : List (Option (Arc Document Z))) (older : Option ℕ) (a : Arc Document Z) (last : ℕ) → last ≡ length slots → ((p : ℕ) → older ≡ Some p → p < length slots)
-      → slice_set (emptied older (slots ++ None ∷ [])) last (Some a) ≡ emptied older slots ++ Some a ∷ []
-  put-slots slots None a last at_end within = set_at slots None [] (Some a) last (sym at_end)
-  put-slots slots (Some p) a last at_end within =
-      ap (λ s. slice_set s last (Some a)) (set-append_left slots (None ∷ []) p None (within p refl))
-      ∙ set_at (slice_set slots p None) None [] (Some a) last (length-set slots p None ∙ sym at_end)
+  pub emptied-pushed : (slots : List (Option (Arc Document Z))) (older : Option ℕ) (s : Option (Arc Document Z)) → ((p : ℕ) → older ≡ Some p → p < length slots)
+      → emptied older (slots ++ s ∷ []) ≡ emptied older slots ++ s ∷ []
+  emptied-pushed slots None s within = refl
+  emptied-pushed slots (Some p) s within = set-append_left slots (s ∷ []) p None (within p refl)
 
   pub documents-put : (id : ℕ) (keys : List Key) (slots ys : List (Option (Arc Document Z))) (a : Arc Document Z) → IsWithout id keys slots ys → keys ≡ keys_at (arc_value a) id
       → documents (ys ++ Some a ∷ []) ≡ after id (documents slots) (added (arc_value a))
@@ -200,14 +191,6 @@ module _ {Z : Type 0} where
   pub older-within : (id : ℕ) (keys : List Key) (slots : List (Option (Arc Document Z))) (m : BTreeMap (List Key) ℕ) (older : Option ℕ) → IsPlaced id slots m → older ≡ get (slice_cmp key_cmp) m keys
       → (p : ℕ) → older ≡ Some p → p < length slots
   older-within id keys slots m older placed old p some = key_in-within id slots p keys (placed.leads keys p (sym old ∙ some))
-
-  pub older-within_pushed : (id : ℕ) (keys : List Key) (slots pushed : List (Option (Arc Document Z))) (m : BTreeMap (List Key) ℕ) (older : Option ℕ) → IsPlaced id slots m → older ≡ get (slice_cmp key_cmp) m keys
-      → pushed ≡ slots ++ None ∷ [] → IfSome older (λ i. i < length pushed)
-  older-within_pushed id keys slots pushed m None placed old is = tt
-  older-within_pushed id keys slots pushed m (Some p) placed old is =
-      let below : p < length slots = older-within id keys slots m (Some p) placed old p refl in
-      let more : length pushed ≡ length slots + 1 = ap length is ∙ length-append slots (None ∷ []) in
-      omega arith
 
   -- a document that stands further on has keys that none before it has
   pub documents-distinct : (id : ℕ) (slots : List (Option (Arc Document Z))) (m : BTreeMap (List Key) ℕ) (i : ℕ) (a : Arc Document Z) → IsPlaced id slots m → slice_get slots i ≡ Some (Some a)

@@ -1,5 +1,5 @@
 use Rattle.std.proofs.Common.{◌≡◌, take}
-use Rattle.client_runner.proofs.pending.unique_key.UniqueKey.copy.Given as goal
+use Rattle.client_runner.proofs.index.unique_key.UniqueKey.copy.Given as goal
 
 -- the keys so far are copied
 abbrev pub invariant-loop-key : goal.invariant-loop-key
