@@ -12,7 +12,7 @@ use Rattle.std.proofs.Math.Seq.{map-set_same, take-length}
 use Rattle.std.proofs.lemmas.Bool.{le-leb}
 use Rattle.std.proofs.lemmas.Bool.Decides.{leb_tells}
 use Rattle.std.proofs.lemmas.Option.{none-some}
-use Rattle.std.proofs.lemmas.List.{get_or-map, take-map, map-append, take-append-le, length-map}
+use Rattle.std.proofs.lemmas.List.{get_or-map, take-map, length-map}
 use Rattle.std.proofs.lemmas.List.Elements.{All-head, All-tail, All-push, All-weaker}
 use mathlib.Core.Logic.{⊎_elim}
 use Rattle.field_schema.specs.declared.key.Key.{Key}
@@ -91,11 +91,6 @@ within-pushed slots pushed doc within is =
     later : (o : Option ℕ) → IfSome o (λ j. j < length slots) → IfSome o (λ j. j < length slots + 1)
     later None h = tt
     later (Some j) h = omega (arith, h)
-
-pub served-pushed : (n : ℕ) (slots pushed : List Slot) (s : Slot) → n ≤ length slots → pushed ≡ slots ++ s ∷ [] → take n (map (seen n) pushed) ≡ take n (map (seen n) slots)
-served-pushed n slots pushed s within is =
-    ap (λ xs. take n (map (seen n) xs)) is ∙ ap (take n) (map-append (seen n) slots (s ∷ []))
-    ∙ take-append-le n (map (seen n) slots) (seen n s ∷ []) (rw (length-map slots (seen n)) within)
 
 -- ---- one slot more
 

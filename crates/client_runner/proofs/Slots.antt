@@ -1,5 +1,5 @@
 -- The slots of documents, as a document takes the place of the one with its unique key.
-use Rattle.std.proofs.Common.{◌≡◌, ◌<◌, ℕ, suc, zero, Bool, true, false, List, [], ◌∷◌, ◌++◌, length, get_or, take, map, Option, Some, None, filter, refl, ap, sym, ◌∙◌, arith, ⊎_elim}
+use Rattle.std.proofs.Common.{◌≡◌, ◌<◌, ℕ, suc, zero, Bool, true, false, List, [], ◌∷◌, ◌++◌, length, get_or, take, Option, Some, None, filter, refl, ap, sym, ◌∙◌, arith, ⊎_elim}
 use Rattle.std.specs.Prelude.{◌⊎◌, ◌+◌, not, slice_set, slice_get}
 use Rattle.std.specs.Arc.{arc_value}
 use Rattle.std.specs.declared.sync.Arc.{Arc}
@@ -7,7 +7,7 @@ use Rattle.std.specs.Cmp.Lexicographic.{pointwise, pointwise_decides, slice_cmp,
 use Rattle.std.specs.BTreeMap.{BTreeMap, get, Updates}
 use Rattle.std.proofs.lemmas.Bool.{true≢false}
 use Rattle.std.proofs.lemmas.Option.{none-some, same_Some, slice_get_read}
-use Rattle.std.proofs.lemmas.List.{length-set, map-append, set-append_left, take_more}
+use Rattle.std.proofs.lemmas.List.{length-set, set-append_left, take_more}
 use mathlib.Core.Logic.{inl, inr}
 use Rattle.field_schema.specs.declared.key.Key.{Key}
 use Rattle.field_schema.specs.Keys.{key_eq, key_cmp}
@@ -146,12 +146,6 @@ module _ {Z : Type 0} where
 
   -- ---- the map and the slots after a document is added
 
-  pub IsPlaced-same : (id : ℕ) (slots : List (Option (Arc Document Z))) (m n : BTreeMap (List Key) ℕ) → IsPlaced id slots m → n.entries ≡ m.entries → IsPlaced id slots n
-  IsPlaced-same id slots m n placed same = record {
-    leads = λ keys i h. placed.leads keys i (rw (sym same) h);
-    found = λ keys i h. rw same (placed.found keys i h);
-  }
-
   pub IsPlaced-put : (id : ℕ) (keys : List Key) (slots ys : List (Option (Arc Document Z))) (a : Arc Document Z) (m n : BTreeMap (List Key) ℕ) (last : ℕ)
       → IsPlaced id slots m → IsWithout id keys slots ys → keys ≡ keys_at (arc_value a) id → last ≡ length slots → Updates (slice_cmp key_cmp) m n keys (Some last)
       → IsPlaced id (ys ++ Some a ∷ []) n
@@ -228,16 +222,6 @@ module _ {Z : Type 0} where
       → documents (take (i + 1) slots) ≡ documents (take i slots)
   documents-more_none slots i s within item none =
       ap documents (take_more slots i s within ∙ ap (λ t. take i slots ++ t ∷ []) (sym item ∙ none)) ∙ documents-pushed_none (take i slots)
-
-  -- a copy b of the document a in slot i is shared
-  pub share-more : (slots : List (Option (Arc Document Z))) (i : ℕ) (s : Option (Arc Document Z)) (a b : Arc Document Z) (shared pushed : List (Arc Document Z)) → i < length slots → s ≡ get_or slots i s → s ≡ Some a
-      → arc_value b ≡ arc_value a → map arc_value shared ≡ documents (take i slots) → pushed ≡ shared ++ b ∷ [] → map arc_value pushed ≡ documents (take (i + 1) slots)
-  share-more slots i s a b shared pushed within item some same before is =
-      ap (map arc_value) is
-      ∙ map-append arc_value shared (b ∷ [])
-      ∙ ap (λ ds. ds ++ arc_value b ∷ []) before
-      ∙ ap (λ d. documents (take i slots) ++ d ∷ []) same
-      ∙ sym (documents-more_some slots i s a within item some)
 
   -- the document d in slot i is added to those before it
   pub compacted-more : (id : ℕ) (slots : List (Option (Arc Document Z))) (m : BTreeMap (List Key) ℕ) (i : ℕ) (s : Option (Arc Document Z)) (a : Arc Document Z) (d : Document) (docs more : List Document)
