@@ -12,7 +12,7 @@ mod run;
 mod runner;
 mod search;
 
-pub use laws::serial_runs_are_lawful;
+pub use laws::every_script_has_a_lawful_output;
 pub use output::output_text;
 pub use rows::{Output, RequestRow, RequestRows, SearcherList, SearcherRow, Verb};
 pub use run::run_script;
