@@ -40,7 +40,7 @@ fn read_back(alloc: Global, schema: &Schema, body: &str) -> Result<String, Fail>
 }
 
 // Bodies under the first schema, and what they read to.
-const SHOP_BODIES: [(&str, &str); 36] = [
+const SHOP_BODIES: [(&str, &str); 38] = [
     (r#"{"id":"b","price":1.5}"#, "BadValue price"),
     (r#"{"cat":"x"}"#, "NoId"),
     ("[1]", "NotObject"),
@@ -101,14 +101,23 @@ const SHOP_BODIES: [(&str, &str); 36] = [
     ),
     (r#"{"id":"b","cat":1e2}"#, "BadValue cat"),
     (r#"{"id":"b","t":1.0}"#, "BadValue t"),
+    (r#"{"id":"b","t":1e2}"#, "BadValue t"),
+    (r#"{"id":"b","t":-0}"#, "BadValue t"),
 ];
 
 // Bodies under the second schema, and what they read to.
-const MANY_BODIES: [(&str, &str); 13] = [
+const MANY_BODIES: [(&str, &str); 17] = [
     (r#"{"id":"b","ok":true}"#, r#"{"id":"b","ok":true}"#),
     (r#"{"id":"b","ok":"yes"}"#, r#"{"id":"b","ok":false}"#),
     (r#"{"id":"b","ok":""}"#, r#"{"id":"b","ok":false}"#),
     (r#"{"id":"b","ok":1.0}"#, "BadValue ok"),
+    (r#"{"id":"b","ok":1e2}"#, "BadValue ok"),
+    (r#"{"id":"b","ok":-0}"#, "BadValue ok"),
+    (
+        r#"{"id":"b","ok":18446744073709551615}"#,
+        r#"{"id":"b","ok":true}"#,
+    ),
+    (r#"{"id":"b","ok":18446744073709551616}"#, "BadValue ok"),
     (r#"{"id":"b","ok":[true,false]}"#, "ManyValues ok"),
     (
         r#"{"id":"b","oks":["t","True","1x","y","off",10,0,-1,false]}"#,

@@ -1,7 +1,9 @@
-use crate::{FieldType, Key, Schema, Text, Texts, tokens};
+use crate::{FieldType, Key, NoMemory, Schema, Text, Texts, tokens};
 use serde_json::Value;
 use std::alloc::Global;
 use std::cmp::Ordering;
+use std::convert::AsStr;
+use std::hash::{DefaultHasher, Hash, Hasher};
 use std::test::Fail;
 
 // What a text reads to: the number of fields and the key's place, or the fault.
@@ -176,6 +178,29 @@ fn texts_are_read_as_tokens(rt: HostRuntime) -> Result<(), Fail> {
     Ok(())
 }
 
+fn hash_of<T: Hash>(value: &T) -> u64 {
+    let mut state = DefaultHasher::new();
+    value.hash(&mut state);
+    state.finish()
+}
+
+fn alike<T: Ord + Hash>(value: &T, other: &T) -> bool {
+    value.partial_cmp(other) == Some(Ordering::Equal) && hash_of(value) == hash_of(other)
+}
+
+// The first two values whose comparison, equality or hashes are not those of their places.
+fn first_misplaced<T: Ord + Hash>(values: &[T]) -> Option<(usize, usize)> {
+    for (i, value) in values.iter().enumerate() {
+        for (j, other) in values.iter().enumerate() {
+            let stands = value.cmp(other) == i.cmp(&j) && (value == other) == (i == j);
+            if !stands || alike(value, other) != (i == j) {
+                return Some((i, j));
+            }
+        }
+    }
+    None
+}
+
 #[test]
 fn keys_are_ordered_by_kind_and_value(rt: HostRuntime) -> Result<(), Fail> {
     let alloc = rt.alloc();
@@ -191,13 +216,61 @@ fn keys_are_ordered_by_kind_and_value(rt: HostRuntime) -> Result<(), Fail> {
     for text in ["", "A", "b"] {
         keys.push(Key::Token(Text::from_str(alloc, text)?))?;
     }
-    for (i, key) in keys.iter().enumerate() {
-        let same = key.copy(alloc)?;
-        assert!(rt; same == *key, "{key:?}");
-        for (j, other) in keys.iter().enumerate() {
-            assert!(rt; same.cmp(other) == i.cmp(&j), "{key:?} {other:?}");
-            assert_eq!(rt; same == *other, i == j, "{key:?} {other:?}");
-        }
+    assert_eq!(rt; first_misplaced(keys.as_slice()), None);
+    for key in &keys {
+        assert!(rt; alike(&key.copy(alloc)?, key), "{key:?}");
     }
+    Ok(())
+}
+
+fn texts(alloc: Global, all: &[&str]) -> Result<Vec<Text>, NoMemory> {
+    let mut items = Vec::new(alloc);
+    for bytes in all {
+        items.push(Text::from_str(alloc, bytes)?)?;
+    }
+    Ok(items)
+}
+
+// Lists of texts, in their order.
+fn lists(alloc: Global) -> Result<Vec<Texts>, NoMemory> {
+    let mut lists = Vec::new(alloc);
+    lists.push(Texts::new(Vec::new(alloc)))?;
+    lists.push(Texts::new(texts(alloc, &[""])?))?;
+    lists.push(Texts::new(texts(alloc, &["", "a"])?))?;
+    lists.push(Texts::new(texts(alloc, &["a"])?))?;
+    lists.push(Texts::new(texts(alloc, &["a", "b", "a"])?))?;
+    lists.push(Texts::new(texts(alloc, &["ab"])?))?;
+    Ok(lists)
+}
+
+#[test]
+fn texts_and_lists_of_them_stand_in_order(rt: HostRuntime) -> Result<(), Fail> {
+    let alloc = rt.alloc();
+    let texts = texts(alloc, &["", "Z", "a", "aa", "b", "é"])?;
+    assert_eq!(rt; first_misplaced(texts.as_slice()), None);
+    for text in &texts {
+        assert!(rt; alike(&text.copy(alloc)?, text), "{text:?}");
+    }
+    let lists = lists(alloc)?;
+    assert_eq!(rt; first_misplaced(lists.as_slice()), None);
+    for list in &lists {
+        assert!(rt; alike(&list.copy(alloc)?, list), "{list:?}");
+    }
+    Ok(())
+}
+
+fn bytes_of<T: AsStr>(text: &T) -> usize {
+    text.as_str().len()
+}
+
+#[test]
+fn texts_lend_what_they_hold(rt: HostRuntime) -> Result<(), Fail> {
+    let alloc = rt.alloc();
+    let text = Text::new(String::from_str(alloc, "Grün 7")?);
+    assert_eq!(rt; (text.get(), bytes_of(&text)), ("Grün 7", 7));
+    let list = Texts::new(vec![in alloc; text, Text::from_str(alloc, "")?]?);
+    assert_eq!(rt; list.get().len(), 2);
+    let items = list.into_vec();
+    assert_eq!(rt; (items[0].get(), items[1].get()), ("Grün 7", ""));
     Ok(())
 }
