@@ -173,6 +173,17 @@ impl DocSet {
     }
 }
 
+#[cfg(test)]
+impl DocSet {
+    /// How many bytes the members take, and whether they are kept as bits.
+    pub(crate) fn form(&self) -> (usize, bool) {
+        match &self.form {
+            Form::Listed(numbers) => (numbers.capacity().saturating_mul(4), false),
+            Form::Bits(words) => (words.capacity().saturating_mul(8), true),
+        }
+    }
+}
+
 /// Whether a list of `count` numbers of 32 bits is larger than a row of `words`.
 fn bits_are_smaller(count: usize, words: usize) -> bool
     requires { words ≤ 4096 }
