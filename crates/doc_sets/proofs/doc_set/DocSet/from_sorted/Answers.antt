@@ -1,4 +1,4 @@
-use Rattle.std.proofs.Common.{◌≤◌, length, vec_len, refl, sym, ap, subst, ◌∙◌, arith}
+use Rattle.std.proofs.Common.{◌≤◌, length, vec_len, refl, sym, subst, ◌∙◌, arith}
 use Rattle.doc_sets.specs.Sets.{IsAscending}
 use Rattle.doc_sets.specs.Forms.{IsShortList}
 use Rattle.doc_sets.specs.declared.TheConstants.{MAX_DOCS}
