@@ -9,5 +9,6 @@ pub mod Members
 pub mod Merging
 pub mod Rising
 pub mod SetsOf
+pub mod Smaller
 pub mod Walking
 pub mod WordByWord

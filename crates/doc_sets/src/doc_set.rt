@@ -4,6 +4,7 @@ ghost use Rattle.std.specs.FinSet as set;
 ghost use Rattle.doc_sets.specs.Sets.{AreDocuments, members, IsAscending, IsListing};
 ghost use Rattle.doc_sets.specs.declared.TheConstants.{MAX_DOCS};
 ghost use Rattle.doc_sets.specs.Rows.{numbers_of};
+ghost use Rattle.doc_sets.specs.Forms.{IsShortList, IsShortRow};
 
 use crate::walk::DocSetIter;
 use crate::{DocNo, NoMemory, listed, rows};
@@ -36,11 +37,11 @@ impl Model for DocSet {
 
     ghost coded = { set.code coded_ℕ };
 
-    ghost use Rattle.doc_sets.specs.Forms.{set_of, numbers_in, IsForm};
+    ghost use Rattle.doc_sets.specs.Forms.{set_of, numbers_in, IsForm, IsSmaller};
 
     ghost view = { λ a. set_of a.form };
 
-    ghost invariant = { λ a. IsForm a.form × (a.count ≡ length (numbers_in a.form)) };
+    ghost invariant = { λ a. IsForm a.form × (a.count ≡ length (numbers_in a.form)) × IsSmaller a.form };
 }
 
 impl DocSet {
@@ -173,6 +174,17 @@ impl DocSet {
     }
 }
 
+#[cfg(test)]
+impl DocSet {
+    /// How many bytes the members take, and whether they are kept as bits.
+    pub(crate) fn form(&self) -> (usize, bool) {
+        match &self.form {
+            Form::Listed(numbers) => (numbers.capacity().saturating_mul(4), false),
+            Form::Bits(words) => (words.capacity().saturating_mul(8), true),
+        }
+    }
+}
+
 /// Whether a list of `count` numbers of 32 bits is larger than a row of `words`.
 fn bits_are_smaller(count: usize, words: usize) -> bool
     requires { words ≤ 4096 }
@@ -183,7 +195,8 @@ fn bits_are_smaller(count: usize, words: usize) -> bool
 
 /// The set of ascending numbers, as a list.
 fn of_list(numbers: Vec<DocNo>) -> DocSet
-    requires { IsAscending numbers.items }
+    requires rises { IsAscending numbers.items }
+    requires short { IsShortList numbers.items }
     ensures { result ≡ set.from_list numbers.items }
 {
     let count = numbers.len() as u32;
@@ -195,7 +208,8 @@ fn of_list(numbers: Vec<DocNo>) -> DocSet
 
 /// The set of a row, as bits.
 fn of_row(words: Vec<u64>) -> DocSet
-    requires { vec_len words ≤ 4096 }
+    requires few { vec_len words ≤ 4096 }
+    requires short { IsShortRow words.items }
     ensures { result ≡ set.from_list (numbers_of words.items) }
 {
     let count = rows::count(&words);
@@ -231,7 +245,6 @@ fn settled_row(alloc: Global, mut words: Vec<u64>) -> Result<DocSet, NoMemory>
             count,
         })
     } else {
-        let numbers = rows::listing(alloc, &words, count)?;
-        Ok(of_list(numbers))
+        settled_list(alloc, rows::listing(alloc, &words, count)?)
     }
 }

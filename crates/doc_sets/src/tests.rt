@@ -196,3 +196,41 @@ fn drawn_sets(rt: HostRuntime) -> Result<(), Fail> {
     }
     Ok(())
 }
+
+#[test]
+fn forms_by_size(rt: HostRuntime) -> Result<(), Fail> {
+    let alloc = rt.alloc();
+    // Up to where a set has all numbers, its last one, and whether a row takes fewer bytes than its list.
+    let rows = [
+        (0, 262_143, false),
+        (1, 63, false),
+        (2, 63, true),
+        (127, 4095, false),
+        (128, 4095, true),
+        (8191, 262_143, false),
+        (8192, 262_143, true),
+    ];
+    for (below, last, bits) in rows {
+        let mut numbers = drawn(alloc, 1, below, 1000)?;
+        numbers.push(last)?;
+        let set = set_of(&rt, alloc, &numbers)?;
+        check(&rt, &set, &numbers, "a set near the change of form");
+        assert_eq!(rt; set.form().1, bits, "the numbers below {below}, and {last}");
+    }
+    let one = set_of(&rt, alloc, &[2])?;
+    let two = set_of(&rt, alloc, &[0, 1])?;
+    let three = two.or(alloc, &one)?;
+    assert_eq!(rt; three.form(), (8, true));
+    assert!(rt; !three.minus(alloc, &one)?.form().1 && !three.and(alloc, &two)?.form().1);
+    let full = set_of(&rt, alloc, &drawn(alloc, 1, MAX_DOCS, 1000)?)?;
+    assert_eq!(rt; full.form(), (32 * 1024, true));
+    let ten = [
+        0, 9, 100, 2000, 30_000, 70_000, 99_999, 200_000, 200_001, 262_143,
+    ];
+    let few = set_of(&rt, alloc, &ten)?;
+    assert!(rt; few.form().0 >= 40 && few.form().0 < 100 && !few.form().1);
+    let few = full.and(alloc, &few)?;
+    check(&rt, &few, &ten, "ten numbers");
+    assert!(rt; few.form().0 >= 40 && few.form().0 < 100 && !few.form().1);
+    Ok(())
+}

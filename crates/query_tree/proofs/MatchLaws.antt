@@ -13,7 +13,7 @@ use Rattle.query_tree.specs.declared.query.Query.{Query}
 use Rattle.query_tree.specs.declared.query.Query.TheViews as query
 use Rattle.query_tree.specs.Keys.{keys_in}
 use Rattle.query_tree.specs.Matches.{has_prefix, is_above, is_below, matches}
-use Rattle.query_tree.specs.MatchLaws.{NestedNegativeAddsNothing, TopNegativeMatches, NestedNegativeMatchesNothing, PhraseWithinText, PhraseAcrossTexts, EmptyPhraseMatchesNothing, EmptyBoolMatchesNothing, EmptyRangeMatchesNothing, PointRangeIsTerm, EmptyPrefixMatchesTexts, none_of, two_texts, has_text}
+use Rattle.query_tree.specs.MatchLaws.{NestedNegativeAddsNothing, TopNegativeMatches, TopNegativeMatchesOthers, NestedNegativeMatchesNothing, PhraseWithinText, PhraseAcrossTexts, EmptyPhraseMatchesNothing, EmptyBoolMatchesNothing, EmptyRangeMatchesNothing, PointRangeIsTerm, EmptyPrefixMatchesTexts, none_of, two_texts, has_text}
 use Rattle.query_tree.proofs.Matching.{matches_Term, matches_Bool, top_Bool, top_Words, top_Range, top_Term, top_Prefix}
 
 and_false : (b : Bool) → (b && false) ≡ false
@@ -35,6 +35,15 @@ pub top_negative : TopNegativeMatches
 top_negative doc cat x none =
     top_Bool doc [] [] (query.made-Term cat x ∷ [])
     ∙ ap (λ b. ((true && not (b || false)) && (not true || false)) || (true && not (b || false))) (no_term doc cat x none)
+
+others : (b : Bool) → (((true && not b) && (not true || false)) || (true && not b)) ≡ not b
+others true = refl
+others false = refl
+
+pub top_others : TopNegativeMatchesOthers
+top_others doc part parts =
+    top_Bool doc [] [] (part ∷ parts)
+    ∙ others (list_any (matches doc) (part ∷ parts))
 
 pub beside_negative : NestedNegativeAddsNothing
 beside_negative doc cat x y none =

@@ -1,5 +1,5 @@
 -- What matching says of small documents and queries.
-use Rattle.std.specs.Prelude.{◌≡◌, ℕ, List, [], ◌∷◌, Bool, true, false, codes}
+use Rattle.std.specs.Prelude.{◌≡◌, ℕ, List, [], ◌∷◌, Bool, true, false, not, codes}
 use Rattle.std.specs.List.{list_any}
 use Rattle.field_schema.specs.declared.key.Key.{Key}
 use Rattle.field_schema.specs.declared.key.Key.TheVariants as key
@@ -30,6 +30,11 @@ NestedNegativeAddsNothing = (doc : List (List Key)) (cat : ℕ) (x y : Key) → 
 abbrev pub TopNegativeMatches : Type 0
 TopNegativeMatches = (doc : List (List Key)) (cat : ℕ) (x : Key) → keys_in doc cat ≡ [] →
     top doc (none_of (query.made-Term cat x ∷ [])) ≡ true
+
+-- a query of prohibited parts alone matches each document that no part matches
+abbrev pub TopNegativeMatchesOthers : Type 0
+TopNegativeMatchesOthers = (doc : List (List Key)) (part : Query) (parts : List Query) →
+    top doc (none_of (part ∷ parts)) ≡ not (list_any (matches doc) (part ∷ parts))
 
 -- a Boolean query with neither required nor optional parts matches nothing where it stands inside another
 abbrev pub NestedNegativeMatchesNothing : Type 0

@@ -1,6 +1,6 @@
 //! What the definition of matching says of small documents and queries. Each function does nothing: its clause
 //! is the law.
-ghost use Rattle.query_tree.specs.MatchLaws.{AllMatches, NestedNegativeAddsNothing, TopNegativeMatches, NestedNegativeMatchesNothing, PhraseWithinText, PhraseAcrossTexts, EmptyPhraseMatchesNothing, EmptyBoolMatchesNothing, EmptyRangeMatchesNothing, PointRangeIsTerm, EmptyPrefixMatchesTexts};
+ghost use Rattle.query_tree.specs.MatchLaws.{AllMatches, NestedNegativeAddsNothing, TopNegativeMatches, TopNegativeMatchesOthers, NestedNegativeMatchesNothing, PhraseWithinText, PhraseAcrossTexts, EmptyPhraseMatchesNothing, EmptyBoolMatchesNothing, EmptyRangeMatchesNothing, PointRangeIsTerm, EmptyPrefixMatchesTexts};
 
 /// `*:*` matches each document.
 pub fn all()
@@ -8,9 +8,11 @@ pub fn all()
 {}
 
 /// `-cat:x` matches the documents without `cat` where it is the whole query, as the guide's Standard Query Parser
-/// has it, and adds none where it stands inside another query.
+/// has it, and adds none where it stands inside another query. A whole query of prohibited parts matches each
+/// document that none of them matches.
 pub fn negative()
     ensures top { TopNegativeMatches }
+    ensures others { TopNegativeMatchesOthers }
     ensures nested { NestedNegativeMatchesNothing }
     ensures beside { NestedNegativeAddsNothing }
 {}

@@ -25,11 +25,11 @@ fn at(number: i64, inclusive: bool) -> End {
     }
 }
 
-// So many queries, each of any document.
-fn any(alloc: Global, count: usize) -> Result<Queries, NoMemory> {
+// A query for each: of the documents with a key in field 0, or of any document.
+fn parts(alloc: Global, with_key: &[bool]) -> Result<Queries, NoMemory> {
     let mut items = Items::new(alloc);
-    for _ in 0..count {
-        items.push(Query::All)?;
+    for &keyed in with_key {
+        items.push(if keyed { Query::Exists(0) } else { Query::All })?;
     }
     Ok(items)
 }
@@ -60,7 +60,7 @@ fn keys(alloc: Global) -> Result<Vec<Key>, NoMemory> {
 
 fn add_terms(alloc: Global, queries: &mut Vec<Query>) -> Result<(), NoMemory> {
     queries.push(Query::All)?;
-    for field in [0, 1, 63] {
+    for field in [0, 1, 2, 3, 5, 8, 13, 21, 34, 55, 62, 63] {
         queries.push(Query::Exists(field))?;
     }
     for field in [0, 1] {
@@ -72,14 +72,14 @@ fn add_terms(alloc: Global, queries: &mut Vec<Query>) -> Result<(), NoMemory> {
 }
 
 fn add_texts(alloc: Global, queries: &mut Vec<Query>) -> Result<(), NoMemory> {
+    let phrases: [&[&str]; 6] = [&[], &["a"], &["a", "a"], &["a", "b"], &["ab"], &["b"]];
     for field in [0, 1] {
-        for count in 0..3 {
-            queries.push(Query::Words(field, words(alloc, &["a", "b"][..count])?))?;
+        for phrase in phrases {
+            queries.push(Query::Words(field, words(alloc, phrase)?))?;
         }
-        queries.push(Query::Words(field, words(alloc, &["ab"])?))?;
     }
     for field in [0, 1] {
-        for bytes in ["", "a", "aa", "b"] {
+        for bytes in ["", "a", "aa", "ab", "b", "ba"] {
             queries.push(Query::Prefix(field, text(alloc, bytes)?))?;
         }
     }
@@ -102,13 +102,15 @@ fn add_ranges(queries: &mut Vec<Query>) -> Result<(), NoMemory> {
 }
 
 fn add_bools(alloc: Global, queries: &mut Vec<Query>) -> Result<(), NoMemory> {
-    for required in 0..3 {
-        for optional in 0..2 {
-            for prohibited in 0..2 {
+    let lists: [&[bool]; 5] = [&[], &[false], &[false, false], &[false, true], &[true]];
+    let ends: [&[bool]; 2] = [&[], &[true]];
+    for required in lists {
+        for optional in ends {
+            for prohibited in ends {
                 queries.push(Query::Bool {
-                    must: any(alloc, required)?,
-                    should: any(alloc, optional)?,
-                    not: any(alloc, prohibited)?,
+                    must: parts(alloc, required)?,
+                    should: parts(alloc, optional)?,
+                    not: parts(alloc, prohibited)?,
                 })?;
             }
         }
@@ -116,7 +118,7 @@ fn add_bools(alloc: Global, queries: &mut Vec<Query>) -> Result<(), NoMemory> {
     Ok(())
 }
 
-// Queries of each kind, in their order.
+// A dozen queries or more of each kind but the first, which has one, in their order.
 fn in_order(alloc: Global) -> Result<Vec<Query>, NoMemory> {
     let mut queries = Vec::new(alloc);
     add_terms(alloc, &mut queries)?;
@@ -126,10 +128,10 @@ fn in_order(alloc: Global) -> Result<Vec<Query>, NoMemory> {
     Ok(queries)
 }
 
-// The first two values whose comparison, equality or hashes are not those of their places.
-fn first_misplaced<T: Ord + Hash>(values: &[T]) -> Option<(usize, usize)> {
+// The first two values, one of each list, whose comparison, equality or hashes are not those of their places.
+fn first_misplaced<T: Ord + Hash>(values: &[T], others: &[T]) -> Option<(usize, usize)> {
     for (i, value) in values.iter().enumerate() {
-        for (j, other) in values.iter().enumerate() {
+        for (j, other) in others.iter().enumerate() {
             let stands = value.cmp(other) == i.cmp(&j) && (value == other) == (i == j);
             if !stands || alike(value, other) != (i == j) {
                 return Some((i, j));
@@ -146,8 +148,9 @@ fn alike<T: Ord + Hash>(value: &T, other: &T) -> bool {
 #[test]
 fn queries_stand_in_order(rt: HostRuntime) -> Result<(), Fail> {
     let queries = in_order(rt.alloc())?;
-    assert_eq!(rt; queries.len(), 1 + 3 + 24 + 8 + 8 + 34 + 12);
-    assert_eq!(rt; first_misplaced(queries.as_slice()), None);
+    assert_eq!(rt; queries.len(), 1 + 12 + 24 + 12 + 12 + 34 + 20);
+    let again = in_order(rt.alloc())?;
+    assert_eq!(rt; first_misplaced(queries.as_slice(), again.as_slice()), None);
     for (i, query) in queries.iter().enumerate() {
         assert!(rt; alike(&query.copy(rt.alloc())?, query), "copy of {i}");
     }
@@ -158,7 +161,7 @@ fn queries_stand_in_order(rt: HostRuntime) -> Result<(), Fail> {
 fn around(alloc: Global, query: Query, place: usize) -> Result<Query, NoMemory> {
     let mut inner = Items::new(alloc);
     inner.push(query)?;
-    let one = any(alloc, 1)?;
+    let one = parts(alloc, &[false])?;
     let none = Items::new(alloc);
     let (must, should, not) = match place {
         0 => (inner, one, none),
@@ -168,27 +171,60 @@ fn around(alloc: Global, query: Query, place: usize) -> Result<Query, NoMemory> 
     Ok(Query::Bool { must, should, not })
 }
 
+// A query of a number inside 65 Boolean ones.
+fn deep(alloc: Global, number: i64) -> Result<Query, NoMemory> {
+    let mut query = Query::Term(0, Key::Long(number));
+    for level in 0..65usize {
+        query = around(alloc, query, level % 3)?;
+    }
+    Ok(query)
+}
+
+// The first part of a Boolean query that asks for more than any document.
+fn inside(query: &Query) -> Option<&Query> {
+    match query {
+        Query::Bool { must, should, not } => {
+            for parts in [must, should, not] {
+                for part in parts.as_slice() {
+                    if *part != Query::All {
+                        return Some(part);
+                    }
+                }
+            }
+            None
+        }
+        _ => None,
+    }
+}
+
 #[test]
 fn deep_query_is_copied(rt: HostRuntime) -> Result<(), Fail> {
-    let mut query = Query::Term(0, Key::Long(1));
-    for level in 0..65usize {
-        query = around(rt.alloc(), query, level % 3)?;
-    }
+    let query = deep(rt.alloc(), 1)?;
     let copy = query.copy(rt.alloc())?;
     assert!(rt; alike(&copy, &query));
-    assert!(rt; copy != Query::All);
+    let mut rest = &copy;
+    for level in 0..65 {
+        match inside(rest) {
+            Some(part) => rest = part,
+            None => panic!(rt; "only {level} deep"),
+        }
+    }
+    assert!(rt; *rest == Query::Term(0, Key::Long(1)));
+    let other = deep(rt.alloc(), 2)?;
+    assert!(rt; copy < other && copy != other && !alike(&copy, &other));
     Ok(())
 }
 
 #[test]
 fn ends_and_sorts_stand_in_order(rt: HostRuntime) -> Result<(), Fail> {
     let ends = [End::Open, at(-1, false), at(-1, true), at(0, false)];
-    assert_eq!(rt; first_misplaced(ends.as_slice()), None);
+    assert_eq!(rt; first_misplaced(ends.as_slice(), ends.as_slice()), None);
     for (i, end) in ends.iter().enumerate() {
         assert!(rt; alike(&end.copy(rt.alloc())?, end), "copy of end {i}");
     }
-    let sorts = sorts(rt.alloc())?;
-    assert_eq!(rt; first_misplaced(sorts.as_slice()), None);
+    let sorts = sorts_in_order(rt.alloc())?;
+    let again = sorts_in_order(rt.alloc())?;
+    assert_eq!(rt; first_misplaced(sorts.as_slice(), again.as_slice()), None);
     for (i, sort) in sorts.iter().enumerate() {
         assert!(rt; alike(&sort.copy(rt.alloc())?, sort), "copy of sort {i}");
     }
@@ -196,7 +232,7 @@ fn ends_and_sorts_stand_in_order(rt: HostRuntime) -> Result<(), Fail> {
 }
 
 // Sorts, in their order.
-fn sorts(alloc: Global) -> Result<Vec<Sort>, NoMemory> {
+fn sorts_in_order(alloc: Global) -> Result<Vec<Sort>, NoMemory> {
     let mut sorts = Vec::new(alloc);
     sorts.push(Sort::new(Vec::new(alloc)))?;
     for by in [SortBy::Field(0), SortBy::Field(7), SortBy::DocId] {

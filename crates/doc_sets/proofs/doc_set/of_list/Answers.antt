@@ -4,4 +4,4 @@ use Rattle.doc_sets.proofs.Rising.{length-rising}
 use Rattle.doc_sets.proofs.doc_set.of_list.Goals as goal
 
 pub overflow_cast-count : goal.overflow_cast-count
-overflow_cast-count c = omega (arith, length-rising 0 MAX_DOCS c.args.numbers.items (omega arith) c.requires)
+overflow_cast-count c = omega (arith, length-rising 0 MAX_DOCS c.args.numbers.items (omega arith) c.requires.rises)
