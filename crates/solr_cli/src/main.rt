@@ -1,6 +1,8 @@
 //! Runs a script of several clients over a core that is held in memory, and tells what each request was answered.
 #![tactic(auto)]
 
+ghost use Rattle.std.specs.Prelude.{◌≡◌, drop};
+
 mod answer;
 mod reading;
 mod status;
@@ -18,12 +20,12 @@ use std::io::ErrorKind;
 use std::process::ExitCode;
 pub use top::{Ran, run_top};
 
-/// The words after the program's name; none of them where one of them is no text.
-fn words_of(rt: &(impl Env + AllocGlobal)) -> Result<Vec<String>, NoMemory> {
+/// The words of the command line, the program's name first; none of them where one of them is no text.
+fn all_words(rt: &(impl Env + AllocGlobal)) -> Result<Vec<String>, NoMemory> {
     let mut words = Vec::new(rt.alloc());
     match env::args(rt) {
         Ok(args) => {
-            for word in args.skip(1) {
+            for word in args {
                 words.push(word)?;
             }
         }
@@ -36,12 +38,23 @@ fn words_of(rt: &(impl Env + AllocGlobal)) -> Result<Vec<String>, NoMemory> {
     Ok(words)
 }
 
+/// The words behind the first, which is the program's name.
+fn behind_name(words: &[String]) -> &[String]
+    ensures { result.now ≡ drop 1 words.now }
+{
+    match words {
+        [_, behind @ ..] => behind,
+        [] => &[],
+    }
+}
+
 fn main(rt: HostRuntime) -> ExitCode {
-    let status = match words_of(&rt) {
+    let status = match all_words(&rt) {
         Ok(words) => {
             let mut input = StdSource::new(rt.stdin());
             let mut output = StdSink::new(rt.stdout());
-            run_top(rt.alloc(), &words, &mut input, &mut output, &OpenGate).status
+            let words = behind_name(&words);
+            run_top(rt.alloc(), words, &mut input, &mut output, &OpenGate).status
         }
         Err(NoMemory) => Status::NoMemory,
     };

@@ -1,6 +1,8 @@
+ghost use Rattle.std.specs.Prelude.{None};
+
 use super::*;
 use field_schema::Text;
-use rt_edge::{MemSink, MemSource};
+use rt_edge::{Failed, MemSink, MemSource, Sink};
 use std::alloc::Global;
 use std::process::Abort;
 use std::test::Fail;
@@ -241,6 +243,76 @@ fn a_failed_write_leaves_a_front(rt: HostRuntime) -> Result<(), Fail> {
             assert_eq!(rt; seen.code, 0);
             assert_eq!(rt; &*seen.written, FOUND_LINES.as_bytes());
         }
+    }
+    Ok(())
+}
+
+// A sink that takes 10 bytes at a time and notes how it is called. Its flush fails where it is told to.
+#[derive(Drop)]
+struct Watched {
+    // How many bytes the next write is to be lent, once there was one.
+    rest: Option<usize>,
+    // Whether no write was lent other than the rest, and none came behind a flush.
+    is_in_turn: bool,
+    flushes: u32,
+    is_failing: bool,
+    faults: u64,
+}
+
+impl Sink for Watched {
+    ghost held = { λ _. None };
+
+    ghost faults = { λ s. s.faults };
+
+    fn write(&mut self, from: &[u8]) -> Result<usize, Failed> {
+        let count = from.len().min(10);
+        let is_rest = match self.rest {
+            Some(rest) => from.len() == rest,
+            None => true,
+        };
+        self.is_in_turn = self.is_in_turn && is_rest && self.flushes == 0;
+        self.rest = Some(from.len() - count);
+        Ok(count)
+    }
+
+    fn flush(&mut self) -> Result<(), Failed> {
+        self.flushes = self.flushes.saturating_add(1);
+        if self.is_failing {
+            self.faults = self.faults.saturating_add(1);
+            return Err(Failed);
+        }
+        Ok(())
+    }
+}
+
+// Words, a script, whether the flush fails, the exit code, what is left to be written, and how many flushes came.
+const FLUSHES: [(&str, &str, bool, u8, Option<usize>, u32); 5] = [
+    ("run", FOUND, false, 0, Some(0), 1),
+    ("run", FOUND, true, 4, Some(0), 1),
+    ("run", "", false, 0, Some(0), 1),
+    ("run", "hello", true, 6, None, 0),
+    ("check", FOUND, true, 2, None, 0),
+];
+
+#[test]
+fn all_that_is_written_is_flushed_once(rt: HostRuntime) -> Result<(), Fail> {
+    let alloc = rt.alloc();
+    for (words, script, is_failing, code, rest, flushes) in FLUSHES {
+        let input = format!(in alloc; "{TWO_FIELDS}{script}")?;
+        let mut source = MemSource::new(input.as_bytes().to_vec(alloc)?, 4096, Vec::new(alloc));
+        let mut sink = Watched {
+            rest: None,
+            is_in_turn: true,
+            flushes: 0,
+            is_failing,
+            faults: 0,
+        };
+        let words = split(alloc, words)?;
+        let ran = run_top(alloc, &words, &mut source, &mut sink, &OpenGate);
+        assert_eq!(rt; ran.status.code(), code);
+        assert_eq!(rt; sink.rest, rest);
+        assert_eq!(rt; sink.flushes, flushes);
+        assert!(rt; sink.is_in_turn);
     }
     Ok(())
 }
