@@ -98,8 +98,9 @@ impl Runner {
 /// Runs the script: each line in its turn.
 ///
 /// Each client's requests are answered in the order of its lines, and each searcher is warmed and registered in
-/// the commit that opens it. It costs, for each add, a look at its unique key, for each commit a step a document,
-/// and for each query a comparison a document that its searcher sees.
+/// the commit that opens it. It costs, for each add, a look at its unique key; for each commit a step, and now and
+/// then a pass over the documents that as many replaced ones have paid for; and for each query a comparison a
+/// document that its searcher sees, and a step a replaced one.
 pub fn run_script<G: Gate>(
     alloc: Global,
     config: &Config,
