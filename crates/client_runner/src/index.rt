@@ -100,21 +100,22 @@ impl Index {
         self.put(alloc, doc)
     }
 
-    /// Opens a searcher, which sees the documents as they stand. After want of memory all is as before.
+    /// Opens a searcher, which sees the documents as they stand.
     ///
     /// It costs a step, and now and then a pass over all documents, which as many replaced ones have paid for. Then
-    /// the slots are no more than twice the documents, or some 1,000.
-    pub fn open(&mut self, alloc: Global) -> Result<(), NoMemory>
+    /// the slots are no more than twice the documents, or some 1,000. Where memory is wanting, the pass waits for a
+    /// later opening.
+    pub fn open(&mut self, alloc: Global)
         ensures id { self.new.id ≡ self.old.id }
         ensures docs { self.new.docs ≡ self.old.docs }
-        ensures ok { OnOk result (self.new.served ≡ self.old.docs) }
-        ensures err { OnErr result (self.new.served ≡ self.old.served) }
+        ensures served { self.new.served ≡ self.old.docs }
     {
         if self.is_sparse() {
-            *self = self.compacted(alloc)?;
+            if let Ok(compacted) = self.compacted(alloc) {
+                *self = compacted;
+            }
         }
         self.see_all();
-        Ok(())
     }
 
     // Has the current searcher see the documents as they stand.

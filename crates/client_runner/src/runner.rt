@@ -217,7 +217,7 @@ impl Runner {
         ensures served { (body : List ℕ) → OnOk result (standing self.new ≡ open_next schema.now (request_of head body) (standing self.old)) }
     {
         let reply = accepted_reply(alloc, schema)?;
-        self.index.open(alloc)?;
+        self.index.open(alloc);
         let opened = self.place;
         let ticket = self.current.acquired;
         let generation = self.current.generation + 1;

@@ -41,7 +41,7 @@ fn run(alloc: Global, index: &mut Index, schema: &Schema, steps: &str) -> Result
     for step in steps.split_whitespace() {
         match step.split_once('=') {
             Some((id, value)) => add(alloc, index, schema, id, value)?,
-            None => index.open(alloc)?,
+            None => index.open(alloc),
         }
     }
     Ok(())
@@ -90,7 +90,7 @@ fn replaced_documents_leave_no_trace(rt: HostRuntime) -> Result<(), Fail> {
         let value = format!(in alloc; "{turn}")?;
         add(alloc, &mut index, &schema, &id, &value)?;
         if turn % 40 == 39 {
-            index.open(alloc)?;
+            index.open(alloc);
         }
         if turn >= 4950 {
             want.push_str(&format!(in alloc; "{id}={value} ")?)?;
