@@ -1,5 +1,5 @@
 pub mod Lists
 pub mod Shown
-pub mod Numbers
 pub mod Values
 pub mod Members
+pub mod UniqueKey

@@ -14,7 +14,7 @@ use Rattle.field_schema.specs.declared.field.Field.{Field}
 use Rattle.field_schema.specs.declared.key.Key.{Key}
 use Rattle.std.specs.Cmp.Lexicographic.{bytes_decides}
 use Rattle.doc_model.specs.declared.doc.DocFault.{DocFault}
-use Rattle.doc_model.specs.ReadDoc.{value_keys, keys_of, member_fault, members_fault}
+use Rattle.doc_model.specs.ReadDoc.{member_values, values_of, member_fault, members_fault}
 
 -- ---- the field of a name
 
@@ -49,79 +49,79 @@ other_name name g gs h = parts (bytes_eq g.name name) _ h (bytes_decides g.name 
     parts true c h d = cc
     parts false c h d = (λ same. let e : false ≡ true = d.1 same in cc, h)
 
-not_among : (name : List ℕ) (gs : List Field) (i : ℕ) (f : Field) → none_named name gs ≡ true → slice_get gs i ≡ Some f → (f.name ≡ name → ⊥)
+pub not_among : (name : List ℕ) (gs : List Field) (i : ℕ) (f : Field) → none_named name gs ≡ true → slice_get gs i ≡ Some f → (f.name ≡ name → ⊥)
 not_among name [] i f h e = λ same. cc
 not_among name (g ∷ gs) zero f h e = let here : g ≡ f = cc in λ same. (other_name name g gs h).0 (rw here same)
 not_among name (g ∷ gs) (suc i) f h e = not_among name gs i f (other_name name g gs h).1 e
 
-both : (a b : Bool) → IsTrue (a && b) → (a ≡ true) × IsTrue b
+pub both : (a b : Bool) → IsTrue (a && b) → (a ≡ true) × IsTrue b
 both true b h = (refl, h)
 both false b h = cc
 
--- ---- the keys of the fields
+-- ---- the values of the fields
 
-keeps_keys : (name : List ℕ) (d : Data) (ms : Members) (g : Field) → (g.name ≡ name → ⊥) → keys_of ms g ≡ keys_of (put name d ms) g
-keeps_keys name d ms g other = ap (λ found. unwrap_or (option_and_then (value_keys g.kind) found) []) (sym (get_member-put_other g.name name d ms other))
+keeps_values : (name : List ℕ) (d : Data) (ms : Members) (g : Field) → (g.name ≡ name → ⊥) → values_of ms g ≡ values_of (put name d ms) g
+keeps_values name d ms g other = ap (λ found. unwrap_or (option_and_then (member_values g.kind) found) []) (sym (get_member-put_other g.name name d ms other))
 
-others_keep : (name : List ℕ) (d : Data) (ms : Members) (gs : List Field) → none_named name gs ≡ true → map (keys_of ms) gs ≡ map (keys_of (put name d ms)) gs
+others_keep : (name : List ℕ) (d : Data) (ms : Members) (gs : List Field) → none_named name gs ≡ true → map (values_of ms) gs ≡ map (values_of (put name d ms)) gs
 others_keep name d ms [] h = refl
 others_keep name d ms (g ∷ gs) h =
     let other = other_name name g gs h in
-    ap₂ (λ (k : List Key) ks. k ∷ ks) (keeps_keys name d ms g other.0) (others_keep name d ms gs other.1)
+    ap₂ (λ (k : List Key) ks. k ∷ ks) (keeps_values name d ms g other.0) (others_keep name d ms gs other.1)
 
-new_keys : (name : List ℕ) (d : Data) (ms : Members) (f : Field) (keys : List Key) → f.name ≡ name → value_keys f.kind d ≡ Some keys → keys_of (put name d ms) f ≡ keys
-new_keys name d ms f keys same read = rw (same, get_member-put name d ms, read) refl
+new_values : (name : List ℕ) (d : Data) (ms : Members) (f : Field) (values : List Key) → f.name ≡ name → member_values f.kind d ≡ Some values → values_of (put name d ms) f ≡ values
+new_values name d ms f values same read = rw (same, get_member-put name d ms, read) refl
 
--- the keys of one more member stand at its field
-pub set_keys : (name : List ℕ) (d : Data) (ms : Members) (keys : List Key) (fs : List Field) (i : ℕ) (f : Field)
-    → IsTrue (names_differ fs) → slice_get fs i ≡ Some f → f.name ≡ name → value_keys f.kind d ≡ Some keys
-    → slice_set (map (keys_of ms) fs) i keys ≡ map (keys_of (put name d ms)) fs
-set_keys name d ms keys [] i f apart here same read = cc
-set_keys name d ms keys (g ∷ gs) zero f apart here same read =
+-- the values of one more member stand at its field
+pub set_values : (name : List ℕ) (d : Data) (ms : Members) (values : List Key) (fs : List Field) (i : ℕ) (f : Field)
+    → IsTrue (names_differ fs) → slice_get fs i ≡ Some f → f.name ≡ name → member_values f.kind d ≡ Some values
+    → slice_set (map (values_of ms) fs) i values ≡ map (values_of (put name d ms)) fs
+set_values name d ms values [] i f apart here same read = cc
+set_values name d ms values (g ∷ gs) zero f apart here same read =
     let is : g ≡ f = cc in
     let named : g.name ≡ name = rw is same in
     let none : none_named name gs ≡ true = subst (λ (n : List ℕ). none_named n gs ≡ true) named (both _ _ apart).0 in
-    ap₂ (λ (k : List Key) ks. k ∷ ks) (sym (new_keys name d ms g keys named (rw is read))) (others_keep name d ms gs none)
-set_keys name d ms keys (g ∷ gs) (suc i) f apart here same read =
+    ap₂ (λ (k : List Key) ks. k ∷ ks) (sym (new_values name d ms g values named (rw is read))) (others_keep name d ms gs none)
+set_values name d ms values (g ∷ gs) (suc i) f apart here same read =
     let parts = both _ (names_differ gs) apart in
     let other = λ (named : g.name ≡ name). not_among g.name gs i f parts.0 here (same ∙ sym named) in
-    ap₂ (λ (k : List Key) ks. k ∷ ks) (keeps_keys name d ms g other) (set_keys name d ms keys gs i f parts.1 here same read)
+    ap₂ (λ (k : List Key) ks. k ∷ ks) (keeps_values name d ms g other) (set_values name d ms values gs i f parts.1 here same read)
 
 -- ---- the walk
 
--- of all entries those that are left are not read yet, none of the others has a fault, and d has their keys
+-- of all entries those that are left are not read yet, none of the others has a fault, and d has their values
 pub record Walked (fields : List Field) (all left : List Entry) (d : List (List Key)) : Type 0 where
   pub done : List Entry
   pub parts : all ≡ done ++ left
   pub fault : members_fault fields (members_view all) ≡ members_fault fields (members_view left)
-  pub keys : d ≡ map (keys_of (members_view done)) fields
+  pub values : d ≡ map (values_of (members_view done)) fields
 
-pub walk_begins : (fields : List Field) (all : List Entry) (d : List (List Key)) → d ≡ map (keys_of no_members) fields → Walked fields all all d
-walk_begins fields all d e = record { done = []; parts = refl; fault = refl; keys = e }
+pub walk_begins : (fields : List Field) (all : List Entry) (d : List (List Key)) → d ≡ map (values_of no_members) fields → Walked fields all all d
+walk_begins fields all d e = record { done = []; parts = refl; fault = refl; values = e }
 
--- the keys of a member stand at its field
+-- the values of a member stand at its field
 abbrev pub IsReadAt : List Field → List ℕ → Data → ℕ → List Key → Type 0
-IsReadAt fields name d i keys = option_and_then (λ f. value_keys f.kind d) (slice_get fields i) ≡ Some keys
+IsReadAt fields name d i values = option_and_then (λ f. member_values f.kind d) (slice_get fields i) ≡ Some values
 
-read_at : (fields : List Field) (name : List ℕ) (d : Data) (i : ℕ) (keys : List Key) (o : Option Field) → slice_get fields i ≡ o → IsReadAt fields name d i keys
-    → (f : Field) × (slice_get fields i ≡ Some f) × (value_keys f.kind d ≡ Some keys)
-read_at fields name d i keys None e h = let none : None ≡ Some keys = rw e at h in cc
-read_at fields name d i keys (Some f) e h = (f, e, rw e at h)
+read_at : (fields : List Field) (name : List ℕ) (d : Data) (i : ℕ) (values : List Key) (o : Option Field) → slice_get fields i ≡ o → IsReadAt fields name d i values
+    → (f : Field) × (slice_get fields i ≡ Some f) × (member_values f.kind d ≡ Some values)
+read_at fields name d i values None e h = let none : None ≡ Some values = rw e at h in cc
+read_at fields name d i values (Some f) e h = (f, e, rw e at h)
 
-pub walk_on : (fields : List Field) (all left : List Entry) (d : List (List Key)) (e : Entry) (i : ℕ) (keys : List Key)
+pub walk_on : (fields : List Field) (all left : List Entry) (d : List (List Key)) (e : Entry) (i : ℕ) (values : List Key)
     → IsTrue (names_differ fields) → IsStrictlySortedBy string_cmp (names_of all) → Walked fields all (e ∷ left) d
-    → field_named (string_bytes e.0) fields ≡ Some i → IsReadAt fields (string_bytes e.0) (view e.1) i keys
-    → member_fault fields (string_bytes e.0) (view e.1) ≡ None → Walked fields all left (slice_set d i keys)
-walk_on fields all left d e i keys apart sorted w named read fine =
-    let at = read_at fields (string_bytes e.0) (view e.1) i keys _ refl read in
+    → field_named (string_bytes e.0) fields ≡ Some i → IsReadAt fields (string_bytes e.0) (view e.1) i values
+    → member_fault fields (string_bytes e.0) (view e.1) ≡ None → Walked fields all left (slice_set d i values)
+walk_on fields all left d e i values apart sorted w named read fine =
+    let at = read_at fields (string_bytes e.0) (view e.1) i values _ refl read in
     let last = put_last w.done e left (subst (λ es. IsStrictlySortedBy string_cmp (names_of es)) w.parts sorted) in
     record {
       done = w.done ++ e ∷ [];
       parts = w.parts ∙ sym (append_assoc w.done (e ∷ []) left);
       fault = w.fault ∙ rw fine refl;
-      keys = ap (λ ks. slice_set ks i keys) w.keys
-          ∙ set_keys (string_bytes e.0) (view e.1) (members_view w.done) keys fields i at.0 apart at.1 (name_of_field (string_bytes e.0) fields i at.0 named at.1) at.2
-          ∙ ap (λ ms. map (keys_of ms) fields) last;
+      values = ap (λ ks. slice_set ks i values) w.values
+          ∙ set_values (string_bytes e.0) (view e.1) (members_view w.done) values fields i at.0 apart at.1 (name_of_field (string_bytes e.0) fields i at.0 named at.1) at.2
+          ∙ ap (λ ms. map (values_of ms) fields) last;
     }
 
 pub walk_fails : (fields : List Field) (all left : List Entry) (d : List (List Key)) (e : Entry) (x : DocFault) → Walked fields all (e ∷ left) d
@@ -129,15 +129,15 @@ pub walk_fails : (fields : List Field) (all left : List Entry) (d : List (List K
 walk_fails fields all left d e x w bad = w.fault ∙ rw bad refl
 
 pub walk_ends : (fields : List Field) (all : List Entry) (d : List (List Key)) → Walked fields all [] d
-    → (members_fault fields (members_view all) ≡ None) × (d ≡ map (keys_of (members_view all)) fields)
+    → (members_fault fields (members_view all) ≡ None) × (d ≡ map (values_of (members_view all)) fields)
 walk_ends fields all d w =
     let whole : all ≡ w.done = w.parts ∙ append-nil w.done in
-    (w.fault, w.keys ∙ ap (λ es. map (keys_of (members_view es)) fields) (sym whole))
+    (w.fault, w.values ∙ ap (λ es. map (values_of (members_view es)) fields) (sym whole))
 
-pub no_keys_more : (fs : List Field) (n : ℕ) → n < length fs → map (keys_of no_members) (take (n + 1) fs) ≡ map (keys_of no_members) (take n fs) ++ [] ∷ []
-no_keys_more fs n h = rw add-one (at_suc fs n h)
+pub no_values_more : (fs : List Field) (n : ℕ) → n < length fs → map (values_of no_members) (take (n + 1) fs) ≡ map (values_of no_members) (take n fs) ++ [] ∷ []
+no_values_more fs n h = rw add-one (at_suc fs n h)
   where
-    at_suc : (fs : List Field) (n : ℕ) → n < length fs → map (keys_of no_members) (take (suc n) fs) ≡ map (keys_of no_members) (take n fs) ++ [] ∷ []
+    at_suc : (fs : List Field) (n : ℕ) → n < length fs → map (values_of no_members) (take (suc n) fs) ≡ map (values_of no_members) (take n fs) ++ [] ∷ []
     at_suc [] n h = absurd (omega arith)
     at_suc (f ∷ fs) zero h = refl
     at_suc (f ∷ fs) (suc n) h = ap (λ ks. [] ∷ ks) (at_suc fs n (omega arith))

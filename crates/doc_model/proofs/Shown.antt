@@ -5,12 +5,11 @@ use Rattle.serde_json.specs.Data.{Members, no_members, put}
 use Rattle.field_schema.specs.declared.field.Field.{Field}
 use Rattle.field_schema.specs.declared.field.FieldList.{FieldList}
 use Rattle.field_schema.specs.declared.key.Key.{Key}
-use Rattle.doc_model.specs.Document.{Document}
 use Rattle.doc_model.specs.DocJson.{field_data, is_shown, doc_members}
 
 -- ms with the member of a field, where it is shown
 abbrev pub with_field : FieldList → Field → List Key → Members → Members
-with_field fields f keys ms = cond (is_shown fields f keys) (put f.name (field_data f keys) ms) ms
+with_field fields f values ms = cond (is_shown fields f values) (put f.name (field_data f values) ms) ms
 
 not_shown : (a b : Bool) (x y : Members) → cond (a && b && false) x y ≡ y
 not_shown true true x y = refl
@@ -18,7 +17,7 @@ not_shown true false x y = refl
 not_shown false true x y = refl
 not_shown false false x y = refl
 
-nothing_left : (n : ℕ) → let d : Document = [] in drop n d ≡ d
+nothing_left : (n : ℕ) → let d : List (List Key) = [] in drop n d ≡ d
 nothing_left zero = refl
 nothing_left (suc n) = refl
 
@@ -27,12 +26,12 @@ without_document fields [] n = refl
 without_document fields (f ∷ fs) n = rw (nothing_left n) refl
 
 -- the members from a field on
-pub members_from : (fields : FieldList) (fs : List Field) (d : Document) (n : ℕ) (f : Field) → slice_get fs n ≡ Some f
+pub members_from : (fields : FieldList) (fs : List Field) (d : List (List Key)) (n : ℕ) (f : Field) → slice_get fs n ≡ Some f
     → doc_members fields (drop n fs) (drop n d) ≡ with_field fields f (slice_index_or d n []) (doc_members fields (drop (suc n) fs) (drop (suc n) d))
 members_from fields [] d n f h = cc
 members_from fields (g ∷ fs) [] n f h = rw (without_document fields (drop n (g ∷ fs)) n, without_document fields (drop n fs) (suc n)) (sym (not_shown f.stored _ _ _))
-members_from fields (g ∷ fs) (keys ∷ d) zero f h = let same : g ≡ f = cc in rw same refl
-members_from fields (g ∷ fs) (keys ∷ d) (suc n) f h = members_from fields fs d n f h
+members_from fields (g ∷ fs) (values ∷ d) zero f h = let same : g ≡ f = cc in rw same refl
+members_from fields (g ∷ fs) (values ∷ d) (suc n) f h = members_from fields fs d n f h
 
 -- a place before the end has a field
 pub is_there : (fs : List Field) (n : ℕ) → n < length fs → None ≡ slice_get fs n → ⊥

@@ -1,7 +1,8 @@
-ghost use Rattle.std.specs.Prelude.{◌≡◌, [], map, slice_index_or};
+ghost use Rattle.std.specs.Prelude.{◌≡◌, [], IfOk, map, slice_index_or};
 ghost use Rattle.std.specs.Arc.{arc_value};
 ghost use Rattle.field_schema.specs.Outcome.{Gives};
-ghost use Rattle.doc_model.specs.Document.{keys_at};
+ghost use Rattle.field_schema.specs.Values.{values_at};
+ghost use Rattle.doc_model.specs.Document.{IsIdAt};
 ghost use Rattle.doc_model.specs.ReadDoc.{doc_of, is_no_memory};
 
 use crate::object::{read_members, read_object};
@@ -40,22 +41,26 @@ impl From<NoMemory> for DocFault {
     }
 }
 
-/// A document. Contracts see for each field, in the order of the schema, the list of its keys.
+/// A document. Contracts see for each field, in the order of the schema, the list of its values, and the text of
+/// the unique key.
 ///
 /// A value of a text field stands in it as the token of its whole text, so a document alone tells which of
 /// its values are texts to be read as tokens.
 #[derive(Debug, Drop)]
 pub struct Doc {
     fields: Vec<Vec<Key>>,
+    key: FieldNo,
 }
 
 impl Model for Doc {
-    ghost use Rattle.std.specs.Prelude.{List, map};
-    ghost use Rattle.field_schema.specs.declared.key.Key.{Key};
+    ghost use Rattle.std.specs.Prelude.{map};
+    ghost use Rattle.doc_model.specs.Document.{Document, IsIdAt, with_id};
 
-    ghost Value = { List (List Key) };
+    ghost Value = { Document };
 
-    ghost view = { λ d. map (λ v. v.items) d.fields.items };
+    ghost view = { λ d. with_id (map (λ v. v.items) d.fields.items) d.key };
+
+    ghost invariant = { λ d. IsIdAt (with_id (map (λ v. v.items) d.fields.items) d.key) d.key };
 }
 
 impl Doc {
@@ -80,19 +85,33 @@ impl Doc {
     /// It costs the body's length times the logarithm of its members, and for each member a comparison with each
     /// field's name.
     pub fn read(alloc: Global, schema: &Schema, body: &str) -> Result<Doc, DocFault>
-        ensures { Gives is_no_memory result (doc_of schema.now body.now) }
+        ensures read { Gives is_no_memory result (doc_of schema.now body.now) }
+        ensures id { IfOk result (λ d. IsIdAt d schema.now.key) }
     {
         let members = read_members(alloc, body)?;
         let fields = read_object(alloc, schema, &members)?;
-        Ok(Doc { fields })
+        Ok(Doc {
+            fields,
+            key: schema.key_field(),
+        })
     }
 
-    /// The keys in a field, in their order; none where there is no such field. It costs nothing.
-    pub fn keys(&self, field: FieldNo) -> &[Key]
-        ensures { result.now ≡ keys_at self.now field }
+    /// The text of the unique key. It costs nothing.
+    pub fn id(&self) -> &Text
+        ensures { result.now ≡ self.now.id }
+    {
+        match self.values(self.key) {
+            [Key::Str(id)] => id,
+            _ => unreachable!(),
+        }
+    }
+
+    /// The values in a field, in their order; none where there is no such field. It costs nothing.
+    pub fn values(&self, field: FieldNo) -> &[Key]
+        ensures { result.now ≡ values_at self.now.values field }
     {
         match self.fields.get(field as usize) {
-            Some(keys) => keys.as_slice(),
+            Some(values) => values.as_slice(),
             None => &[],
         }
     }
@@ -107,9 +126,9 @@ pub struct Docs {
 impl Model for Docs {
     ghost use Rattle.std.specs.Prelude.{List, map};
     ghost use Rattle.std.specs.Arc.{arc_value};
-    ghost use Rattle.field_schema.specs.declared.key.Key.{Key};
+    ghost use Rattle.doc_model.specs.Document.{Document};
 
-    ghost Value = { List (List (List Key)) };
+    ghost Value = { List Document };
 
     ghost view = { λ d. map arc_value d.items.items };
 }

@@ -1,7 +1,7 @@
 ghost use Rattle.std.specs.Prelude.{◌≡◌, IfOk, OnOk, map, if◌then◌else◌};
 ghost use Rattle.serde_json.specs.Data.{array, put as with_member};
 ghost use Rattle.serde_json.specs.View.{view, items_view, members_view};
-ghost use Rattle.doc_model.specs.DocJson.{doc_data, field_data, is_listed, is_shown, key_data, keys_data};
+ghost use Rattle.doc_model.specs.DocJson.{doc_data, field_data, is_listed, is_shown, value_data, values_data};
 
 use crate::doc::Doc;
 use field_schema::{Field, FieldList, Key, NoMemory, Schema};
@@ -24,7 +24,7 @@ pub fn doc_json(
     let mut members = Map::new(alloc);
     for number in (0..schema.len()).rev() {
         if let Some(field) = schema.get(number) {
-            add_member(alloc, &mut members, field, doc.keys(number), fields)?;
+            add_member(alloc, &mut members, field, doc.values(number), fields)?;
         }
     }
     Ok(Value::Object(members))
@@ -35,17 +35,17 @@ fn add_member(
     alloc: Global,
     members: &mut Map<String, Value>,
     field: &Field,
-    keys: &[Key],
+    values: &[Key],
     fields: &FieldList,
 ) -> Result<(), NoMemory>
     ensures { OnOk result (members_view members.new.entries
-        ≡ (if is_shown fields.now field.now keys.now
-        then with_member field.now.name (field_data field.now keys.now) (members_view members.old.entries)
+        ≡ (if is_shown fields.now field.now values.now
+        then with_member field.now.name (field_data field.now values.now) (members_view members.old.entries)
         else members_view members.old.entries)) }
 {
-    if field.stored && lists(fields, field) && !keys.is_empty() {
-        let value = field_value(alloc, field, keys)?;
-        serde_json::put(members, alloc, field.name.get(), value)?;
+    if field.stored && lists(fields, field) && !values.is_empty() {
+        let member = field_value(alloc, field, values)?;
+        serde_json::put(members, alloc, field.name.get(), member)?;
     }
     Ok(())
 }
@@ -64,33 +64,33 @@ fn lists(fields: &FieldList, field: &Field) -> bool
 }
 
 // What the field's member holds.
-fn field_value(alloc: Global, field: &Field, keys: &[Key]) -> Result<Value, NoMemory>
-    ensures { IfOk result (λ v. view v ≡ field_data field.now keys.now) }
+fn field_value(alloc: Global, field: &Field, values: &[Key]) -> Result<Value, NoMemory>
+    ensures { IfOk result (λ v. view v ≡ field_data field.now values.now) }
 {
     if field.multi {
-        return list_value(alloc, keys);
+        return list_value(alloc, values);
     }
-    match keys.first() {
-        Some(key) => key_value(alloc, key),
+    match values.first() {
+        Some(first) => json_value(alloc, first),
         None => Ok(Value::Null),
     }
 }
 
-// The list of the keys.
-fn list_value(alloc: Global, keys: &[Key]) -> Result<Value, NoMemory>
-    ensures { IfOk result (λ v. view v ≡ array (keys_data keys.now)) }
+// The list of the values.
+fn list_value(alloc: Global, values: &[Key]) -> Result<Value, NoMemory>
+    ensures { IfOk result (λ v. view v ≡ array (values_data values.now)) }
 {
-    let mut values = Vec::new(alloc);
-    for key in keys {
-        values.push(key_value(alloc, key)?)?;
+    let mut items = Vec::new(alloc);
+    for value in values {
+        items.push(json_value(alloc, value)?)?;
     }
-    Ok(Value::Array(values))
+    Ok(Value::Array(items))
 }
 
-fn key_value(alloc: Global, key: &Key) -> Result<Value, NoMemory>
-    ensures { IfOk result (λ v. view v ≡ key_data key.now) }
+fn json_value(alloc: Global, value: &Key) -> Result<Value, NoMemory>
+    ensures { IfOk result (λ v. view v ≡ value_data value.now) }
 {
-    match key {
+    match value {
         Key::Str(text) => Ok(Value::try_from_str(alloc, text.get())?),
         Key::Long(number) => Ok(Value::from(*number)),
         Key::Bool(truth) => Ok(Value::Bool(*truth)),

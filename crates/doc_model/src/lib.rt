@@ -1,4 +1,4 @@
-//! Documents: for each field of the schema the list of its keys.
+//! Documents: for each field of the schema the list of its values, and the text of the unique key.
 #![tactic(auto)]
 
 mod doc;

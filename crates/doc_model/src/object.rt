@@ -1,5 +1,5 @@
 // The members of a document's object.
-ghost use Rattle.std.specs.Prelude.{◌≡◌, [], ⊤, List, Some, None, true, IfOk, IfErr, MatchResult, option_map, option_and_then, map, slice_get, Ok, Err};
+ghost use Rattle.std.specs.Prelude.{◌≡◌, [], ⊤, List, Some, None, true, IfOk, IfErr, MatchResult, length, option_map, option_and_then, map, slice_get, Ok, Err};
 ghost use Rattle.std.specs.Bool.{MatchBool};
 ghost use Rattle.std.specs.Option.{option_map_or, option_copied};
 ghost use Rattle.serde_json.specs.Data.{no_members};
@@ -8,11 +8,12 @@ ghost use Rattle.serde_json.specs.Find.{get_member, as_object};
 ghost use Rattle.serde_json.specs.Read.{read as read_text};
 ghost use Rattle.serde_json.specs.View.{view, members_view};
 ghost use Rattle.field_schema.specs.Schema.{field_named};
-ghost use Rattle.doc_model.specs.ReadDoc.{is_no_memory, value_keys as keys_of_value, too_long as first_too_long, str_length as length_of_str, keys_fault, member_fault, has_no_value as has_nothing, lacks_id as lacks_an_id, keys_of, object_doc};
+ghost use Rattle.doc_model.specs.ReadDoc.{is_no_memory, member_values as values_of_member, too_long as first_too_long, values_fault, member_fault, has_no_value as has_nothing, lacks_id as lacks_an_id, values_of, object_doc};
+ghost use Rattle.doc_model.specs.Document.{IsIdAt, with_id, str_text};
 ghost use Rattle.doc_model.specs.declared.doc.DocFault.TheVariants.{NotObject, UnknownField, BadValue, ManyValues};
 
 use crate::doc::DocFault;
-use crate::value::{Misfit, value_keys};
+use crate::value::{Misfit, member_values};
 use field_schema::{Field, FieldNo, Key, NoMemory, Schema, Text};
 use serde_json::{Category, Error, Map, Value};
 use std::alloc::Global;
@@ -54,31 +55,32 @@ fn text_fault(error: &Error) -> DocFault
     }
 }
 
-// The keys of each field, or the first fault.
+// The values of each field, or the first fault.
 pub(crate) fn read_object(
     alloc: Global,
     schema: &Schema,
     members: &Map<String, Value>,
 ) -> Result<Vec<Vec<Key>>, DocFault>
-    ensures { MatchResult result
-        (λ d. object_doc schema.now (members_view members.now.entries) ≡ Ok (map (λ v. v.items) d.items))
+    ensures read { MatchResult result
+        (λ d. object_doc schema.now (members_view members.now.entries) ≡ Ok (with_id (map (λ v. v.items) d.items) schema.now.key))
         (λ e. MatchBool (is_no_memory e) ⊤ (object_doc schema.now (members_view members.now.entries) ≡ Err e)) }
+    ensures id { IfOk result (λ d. IsIdAt (with_id (map (λ v. v.items) d.items) schema.now.key) schema.now.key) }
 {
     let key = schema.key_field();
     if lacks_id(schema.get(key), members) {
         return Err(DocFault::NoId);
     }
-    let mut fields = no_keys(alloc, schema)?;
+    let mut fields = no_values(alloc, schema)?;
     for (name, value) in members.iter() {
-        let (number, keys) = member_keys(alloc, schema, name.as_str(), value)?;
-        fields[number as usize] = keys;
+        let (number, values) = read_member(alloc, schema, name.as_str(), value)?;
+        fields[number as usize] = values;
     }
     Ok(fields)
 }
 
-// For each field no key.
-fn no_keys(alloc: Global, schema: &Schema) -> Result<Vec<Vec<Key>>, NoMemory>
-    ensures { IfOk result (λ d. map (λ v. v.items) d.items ≡ map (keys_of no_members) schema.now.list) }
+// For each field no value.
+fn no_values(alloc: Global, schema: &Schema) -> Result<Vec<Vec<Key>>, NoMemory>
+    ensures { IfOk result (λ d. map (λ v. v.items) d.items ≡ map (values_of no_members) schema.now.list) }
 {
     let mut empty = Vec::new(alloc);
     for _number in 0..schema.len() {
@@ -117,15 +119,15 @@ fn has_no_value(value: &Value) -> bool
     }
 }
 
-// The place of a member's field, and its keys there.
-fn member_keys(
+// The place of a member's field, and its values there.
+fn read_member(
     alloc: Global,
     schema: &Schema,
     name: &str,
     value: &Value,
 ) -> Result<(FieldNo, Vec<Key>), DocFault>
     ensures place { IfOk result (λ p. field_named name.now schema.now.list ≡ Some p.0) }
-    ensures keys { IfOk result (λ p. option_and_then (λ f. keys_of_value f.kind (view value.now)) (slice_get schema.now.list p.0) ≡ Some p.1.items) }
+    ensures values { IfOk result (λ p. option_and_then (λ f. values_of_member f.kind (view value.now)) (slice_get schema.now.list p.0) ≡ Some p.1.items) }
     ensures fine { IfOk result (λ p. member_fault schema.now.list name.now (view value.now) ≡ None) }
     ensures fault { IfErr result (λ e. MatchBool (is_no_memory e) ⊤ (member_fault schema.now.list name.now (view value.now) ≡ Some e)) }
 {
@@ -135,8 +137,8 @@ fn member_keys(
     let Some(field) = schema.get(number) else {
         return Err(unknown_field(alloc, name));
     };
-    let keys = field_keys(alloc, field, value)?;
-    Ok((number, keys))
+    let values = field_values(alloc, field, value)?;
+    Ok((number, values))
 }
 
 // The fault of a member whose name no field has.
@@ -149,23 +151,23 @@ fn unknown_field(alloc: Global, name: &str) -> DocFault
     }
 }
 
-// The keys of a member in its field.
-fn field_keys(alloc: Global, field: &Field, value: &Value) -> Result<Vec<Key>, DocFault>
-    ensures keys { IfOk result (λ keys. keys_of_value field.now.kind (view value.now) ≡ Some keys.items) }
-    ensures fine { IfOk result (λ keys. keys_fault field.now (keys_of_value field.now.kind (view value.now)) ≡ None) }
-    ensures fault { IfErr result (λ e. MatchBool (is_no_memory e) ⊤ (keys_fault field.now (keys_of_value field.now.kind (view value.now)) ≡ Some e)) }
+// The values of a member in its field.
+fn field_values(alloc: Global, field: &Field, value: &Value) -> Result<Vec<Key>, DocFault>
+    ensures values { IfOk result (λ values. values_of_member field.now.kind (view value.now) ≡ Some values.items) }
+    ensures fine { IfOk result (λ values. values_fault field.now (values_of_member field.now.kind (view value.now)) ≡ None) }
+    ensures fault { IfErr result (λ e. MatchBool (is_no_memory e) ⊤ (values_fault field.now (values_of_member field.now.kind (view value.now)) ≡ Some e)) }
 {
-    let keys = match value_keys(alloc, field.kind, value) {
-        Ok(keys) => keys,
+    let values = match member_values(alloc, field.kind, value) {
+        Ok(values) => values,
         Err(Misfit::WrongType) => return Err(bad_value(alloc, field)),
         Err(Misfit::NoMemory) => return Err(DocFault::NoMemory),
     };
-    if !field.multi && keys.len() > 1 {
+    if !field.multi && values.len() > 1 {
         return Err(many_values(alloc, field));
     }
-    match too_long(keys.as_slice()) {
+    match too_long(values.as_slice()) {
         Some(bytes) => Err(DocFault::TooLong { bytes }),
-        None => Ok(keys),
+        None => Ok(values),
     }
 }
 
@@ -188,11 +190,11 @@ fn many_values(alloc: Global, field: &Field) -> DocFault
 }
 
 // The length of the first value of a string field that is too long.
-fn too_long(keys: &[Key]) -> Option<usize>
-    ensures { result ≡ first_too_long keys.now }
+fn too_long(values: &[Key]) -> Option<usize>
+    ensures { result ≡ first_too_long values.now }
 {
-    for key in keys {
-        let bytes = str_length(key);
+    for value in values {
+        let bytes = str_length(value);
         if bytes > MOST_BYTES {
             return Some(bytes);
         }
@@ -200,10 +202,10 @@ fn too_long(keys: &[Key]) -> Option<usize>
     None
 }
 
-fn str_length(key: &Key) -> usize
-    ensures { result ≡ length_of_str key.now }
+fn str_length(value: &Key) -> usize
+    ensures { result ≡ length (str_text value.now) }
 {
-    match key {
+    match value {
         Key::Str(text) => text.get().len(),
         _ => 0,
     }

@@ -1,5 +1,6 @@
 pub mod FieldFaults
 pub mod FieldLists
+pub mod Numbers
 pub mod Positions
 pub mod Shapes
 pub mod StringFields

@@ -4,6 +4,7 @@
 //! - [`Schema::read`] reads a schema from JSON, or tells the first fault of the value.
 //! - [`Key`] is a value as queries and sorts see it, with a total order.
 //! - [`tokens`] splits a text into the tokens that a text field is searched by.
+//! - [`long_text`], [`begins_true`] and [`truth_text`] say what texts and truth values are in fields of other types.
 //!
 //! Contracts see a `Text` as its bytes, a `Texts` as the list of those, and a `Schema` as the list of its fields
 //! and the place of its key.
@@ -18,6 +19,7 @@ mod reading;
 mod schema;
 mod text;
 mod token;
+mod value_text;
 
 pub use field::{Field, FieldList, FieldNo, FieldType};
 pub use key::Key;
@@ -25,6 +27,7 @@ pub use memory::NoMemory;
 pub use schema::{Schema, SchemaFault};
 pub use text::{Text, Texts};
 pub use token::tokens;
+pub use value_text::{begins_true, long_text, truth_text};
 
 #[cfg(test)]
 mod tests;

@@ -11,7 +11,7 @@ use Rattle.field_schema.specs.Laws.{key_cmp_total, key_cmp_ties}
 use Rattle.query_tree.specs.declared.query.End.TheVariants as end
 use Rattle.query_tree.specs.declared.query.Query.{Query}
 use Rattle.query_tree.specs.declared.query.Query.TheViews as query
-use Rattle.query_tree.specs.Keys.{keys_in}
+use Rattle.query_tree.specs.KeysOfDocs.{keys_in}
 use Rattle.query_tree.specs.Matches.{has_prefix, is_above, is_below, matches}
 use Rattle.query_tree.specs.MatchLaws.{NestedNegativeAddsNothing, TopNegativeMatches, TopNegativeMatchesOthers, NestedNegativeMatchesNothing, PhraseWithinText, PhraseAcrossTexts, EmptyPhraseMatchesNothing, EmptyBoolMatchesNothing, EmptyRangeMatchesNothing, PointRangeIsTerm, EmptyPrefixMatchesTexts, none_of, two_texts, has_text}
 use Rattle.query_tree.proofs.Matching.{matches_Term, matches_Bool, top_Bool, top_Words, top_Range, top_Term, top_Prefix}

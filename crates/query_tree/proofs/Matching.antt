@@ -9,7 +9,7 @@ use Rattle.query_tree.specs.declared.query.Query.{Query, Query-F, fold_out-Query
 use Rattle.query_tree.specs.declared.query.Query.TheFolds.{map-Query}
 use Rattle.query_tree.specs.declared.query.Query.TheOpen as node
 use Rattle.query_tree.specs.declared.query.Query.TheViews as query
-use Rattle.query_tree.specs.Keys.{values_in}
+use Rattle.field_schema.specs.Values.{values_at}
 use Rattle.query_tree.specs.Matches.{has_words, has_prefix, is_above, is_below, has_key, is_empty, boolean, says, matches, is_negative, top_says, top}
 
 -- ---- lists of answers
@@ -49,7 +49,7 @@ module _ (doc : List (List Key)) where
   pub matches_Term : (field : ℕ) (k : Key) → matches doc (query.made-Term field k) ≡ has_key doc field (key_eq k)
   matches_Term field k = along (query.made-Term field k) (node.Term field k) (query.outs-Term field k)
 
-  pub matches_Words : (field : ℕ) (ws : List (List ℕ)) → matches doc (query.made-Words field ws) ≡ (not (is_empty ws) && list_any (has_words ws) (values_in doc field))
+  pub matches_Words : (field : ℕ) (ws : List (List ℕ)) → matches doc (query.made-Words field ws) ≡ (not (is_empty ws) && list_any (has_words ws) (values_at doc field))
   matches_Words field ws = along (query.made-Words field ws) (node.Words field ws) (query.outs-Words field ws)
 
   pub matches_Prefix : (field : ℕ) (p : List ℕ) → matches doc (query.made-Prefix field p) ≡ has_key doc field (has_prefix p)
@@ -77,7 +77,7 @@ module _ (doc : List (List Key)) where
   pub top_Term : (field : ℕ) (k : Key) → top doc (query.made-Term field k) ≡ has_key doc field (key_eq k)
   top_Term field k = top_along (query.made-Term field k) (node.Term field k) (query.outs-Term field k) ∙ matches_Term field k
 
-  pub top_Words : (field : ℕ) (ws : List (List ℕ)) → top doc (query.made-Words field ws) ≡ (not (is_empty ws) && list_any (has_words ws) (values_in doc field))
+  pub top_Words : (field : ℕ) (ws : List (List ℕ)) → top doc (query.made-Words field ws) ≡ (not (is_empty ws) && list_any (has_words ws) (values_at doc field))
   top_Words field ws = top_along (query.made-Words field ws) (node.Words field ws) (query.outs-Words field ws) ∙ matches_Words field ws
 
   pub top_Prefix : (field : ℕ) (p : List ℕ) → top doc (query.made-Prefix field p) ≡ has_key doc field (has_prefix p)

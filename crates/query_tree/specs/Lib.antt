@@ -1,4 +1,4 @@
-pub mod Keys
+pub mod KeysOfDocs
 pub mod Matches
 pub mod MatchLaws
 pub mod Order

@@ -6,7 +6,7 @@ use Rattle.field_schema.specs.declared.key.Key.TheVariants as key
 use Rattle.query_tree.specs.declared.query.End.TheVariants as end
 use Rattle.query_tree.specs.declared.query.Query.{Query}
 use Rattle.query_tree.specs.declared.query.Query.TheViews as query
-use Rattle.query_tree.specs.Keys.{keys_in}
+use Rattle.query_tree.specs.KeysOfDocs.{keys_in}
 use Rattle.query_tree.specs.Matches.{matches, top}
 
 -- a query with optional parts alone

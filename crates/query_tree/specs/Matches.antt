@@ -12,7 +12,8 @@ use Rattle.query_tree.specs.declared.query.End.TheVariants as end
 use Rattle.query_tree.specs.declared.query.Query.{Query, fold-Query, out-Query}
 use Rattle.query_tree.specs.declared.query.Query.TheOpen.{Query-F}
 use Rattle.query_tree.specs.declared.query.Query.TheOpen as node
-use Rattle.query_tree.specs.Keys.{values_in, keys_in}
+use Rattle.query_tree.specs.KeysOfDocs.{keys_in}
+use Rattle.field_schema.specs.Values.{values_at}
 
 -- the tokens begin with the words
 abbrev pub begins_with : List (List ℕ) → List (List ℕ) → Bool
@@ -72,7 +73,7 @@ abbrev pub says : List (List Key) → Query-F Bool → Bool
 says doc node.All = true
 says doc (node.Exists field) = has_key doc field (λ k. true)
 says doc (node.Term field k) = has_key doc field (key_eq k)
-says doc (node.Words field ws) = not (is_empty ws) && list_any (has_words ws) (values_in doc field)
+says doc (node.Words field ws) = not (is_empty ws) && list_any (has_words ws) (values_at doc field)
 says doc (node.Prefix field p) = has_key doc field (has_prefix p)
 says doc (node.Range field a b) = has_key doc field (λ k. is_above a k && is_below b k)
 says doc (node.Bool must should not_) = boolean must should not_

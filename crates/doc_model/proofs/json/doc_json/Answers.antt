@@ -12,9 +12,9 @@ loop-number-preserved-in-Continue-1 c =
     let fields = c.args.fields.now in
     let f = c.in-Some.field.now in
     let here : slice_get c.args.schema.now.list n ≡ Some f = sym c.in-Some.ensures in
-    let known = subst (λ (k : ℕ). members_view c.loop-number.members.entries ≡ doc_members fields (drop k c.args.schema.now.list) (drop k c.args.doc.now)) next c.loop-number.invariant in
-    c.in_ok-add_member.ensures ∙ ap (λ keys. with_field fields f keys (members_view c.loop-number.members.entries)) c.keys.ensures
-    ∙ ap (with_field fields f (slice_index_or c.args.doc.now n [])) known ∙ sym (members_from fields c.args.schema.now.list c.args.doc.now n f here)
+    let known = subst (λ (k : ℕ). members_view c.loop-number.members.entries ≡ doc_members fields (drop k c.args.schema.now.list) (drop k c.args.doc.now.values)) next c.loop-number.invariant in
+    c.in_ok-add_member.ensures ∙ ap (λ values. with_field fields f values (members_view c.loop-number.members.entries)) c.values.ensures
+    ∙ ap (with_field fields f (slice_index_or c.args.doc.now.values n [])) known ∙ sym (members_from fields c.args.schema.now.list c.args.doc.now.values n f here)
 
 pub loop-number-preserved : goal.loop-number-preserved
 loop-number-preserved c =

@@ -5,4 +5,4 @@ use Rattle.doc_model.proofs.json.doc_json.Given as goal
 
 -- the members of the fields from this one on
 abbrev pub invariant-loop-number : goal.invariant-loop-number
-invariant-loop-number l = members_view l.members.entries ≡ doc_members l.fields (drop l.number l.schema.list) (drop l.number l.doc)
+invariant-loop-number l = members_view l.members.entries ≡ doc_members l.fields (drop l.number l.schema.list) (drop l.number l.doc.values)

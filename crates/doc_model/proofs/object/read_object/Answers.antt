@@ -1,10 +1,13 @@
-use Rattle.std.proofs.Common.{◌≡◌, ℕ, List, ◌∷◌, Some, None, map, string_bytes, subst}
+use Rattle.std.proofs.Common.{◌≡◌, ℕ, false, List, [], ◌∷◌, Some, None, map, string_bytes, subst, sym}
 use Rattle.std.proofs.lemmas.List.{map-set}
-use Rattle.serde_json.specs.View.{view}
+use Rattle.serde_json.specs.View.{view, members_view}
 use Rattle.serde_json.proofs.Views.{Entry}
 use Rattle.field_schema.specs.Schema.{field_named}
-use Rattle.doc_model.specs.ReadDoc.{member_fault}
-use Rattle.doc_model.proofs.Members.{Walked, walk_on}
+use Rattle.field_schema.specs.declared.key.Key.{Key}
+use Rattle.doc_model.specs.Document.{IsIdAt, with_id}
+use Rattle.doc_model.specs.ReadDoc.{member_fault, lacks_id}
+use Rattle.doc_model.proofs.Members.{Walked, walk_on, walk_ends}
+use Rattle.doc_model.proofs.UniqueKey.{id_read}
 use Rattle.doc_model.proofs.object.read_object.Goals as goal
 
 pub loop-name-preserved : goal.loop-name-preserved
@@ -16,10 +19,22 @@ loop-name-preserved c =
     let left = c.next.new.self in
     let step : l.name-iterator ≡ e ∷ left = c.in-Some.ensures.steps in
     let number = c.in_ok-number.number in
-    let keys = c.in_ok-number.keys in
+    let values = c.in_ok-number.values in
     let w = subst (λ (es : List Entry). Walked fields all es (map (λ v. v.items) l.fields.items)) step l.invariant in
     let named : c.as_str.result.now ≡ string_bytes e.0 = c.as_str.ensures.value in
     let place = subst (λ (n : List ℕ). field_named n fields ≡ Some number) named c.in_ok-number.ensures.place in
     let fine = subst (λ (n : List ℕ). member_fault fields n (view e.1) ≡ None) named c.in_ok-number.ensures.fine in
-    let on = walk_on fields all left _ e number keys.items c.key_field-key.ensures.lawful.distinct c.iter-name-items.ensures.ordered w place c.in_ok-number.ensures.keys fine in
-    rw (map-set (λ v. v.items) l.fields.items number keys) on
+    let on = walk_on fields all left _ e number values.items c.key_field-key.ensures.lawful.distinct c.iter-name-items.ensures.ordered w place c.in_ok-number.ensures.values fine in
+    rw (map-set (λ v. v.items) l.fields.items number values) on
+
+pub returns-clause-id : goal.returns-clause-id
+returns-clause-id c =
+    let l = c.loop-name in
+    let s = c.args.schema.now in
+    let all = c.args.members.now.entries in
+    let vs = map (λ v. v.items) l.fields.items in
+    let end : l.name-iterator ≡ [] = c.in-None.ensures.steps.0 in
+    let walked = walk_ends s.list all vs (subst (λ (es : List Entry). Walked s.list all es vs) end l.invariant) in
+    let some : lacks_id s (members_view all) ≡ false = cc in
+    let id = id_read s (members_view all) c.key_field-key.ensures.lawful some walked.0 in
+    subst (λ (x : List (List Key)). IsIdAt (with_id x s.key) s.key) (sym walked.1) id
