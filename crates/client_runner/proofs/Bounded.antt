@@ -1,9 +1,9 @@
 -- The rows before a standing lie below its place, and those behind it do not.
 use Rattle.std.proofs.Common.{◌≡◌, ℕ, ◌<◌, ◌≤◌, min, max, List, [], ◌∷◌, ◌++◌, fold, flat_map, filter_map, Bool, true, false, ◌==◌, ◌||◌, nat_lt, if◌then◌else◌, Option, Some, None, IfSome, option_to_list, option_and_then, arith}
 use Rattle.std.specs.List.{AllByRecursion, cons_option}
-use Rattle.field_schema.specs.Schema.{Fields}
+use Rattle.script_form.specs.declared.config.Config.{Config}
 use Rattle.run_laws.specs.Rows.{Verb, add, delete, query, commit, SearcherRow}
-use Rattle.run_laws.specs.Requests.{Told}
+use Rattle.run_laws.specs.Calls.{Told}
 use Rattle.run_laws.specs.Bounds.{is_commit, is_query, end_opened_by, waits, sets_below, sets_above, low, high}
 use Rattle.run_laws.specs.Lawful.{pin_of, pins, IsBehind}
 use Rattle.client_runner.specs.Serial.{Standing}
@@ -103,8 +103,8 @@ sets_below_past : (ss : List SearcherRow) (p g k : ℕ) (t e : Told) → IsPast 
 sets_below_past ss p g k t e past =
     let own : AllByRecursion (λ x. x < p) (option_to_list e.row.place) = all_option (λ x. x < p) e.row.place past.place in
     let ends : AllByRecursion (λ x. x < p) (option_to_list (end_opened_by ss e)) = all_option (λ x. x < p) (end_opened_by ss e) past.end in
-    all_if (λ x. x < p) (nat_lt e.asked.phase t.asked.phase) _ _ (all_append (λ x. x < p) (option_to_list e.row.place) _ own ends)
-    (all_if (λ x. x < p) (e.asked.client == t.asked.client) _ _ (all_append (λ x. x < p) (option_to_list e.row.place) _ own (all_if (λ x. x < p) (waits e) _ [] ends tt)) tt)
+    all_if (λ x. x < p) (nat_lt e.call.phase t.call.phase) _ _ (all_append (λ x. x < p) (option_to_list e.row.place) _ own ends)
+    (all_if (λ x. x < p) (e.call.client == t.call.client) _ _ (all_append (λ x. x < p) (option_to_list e.row.place) _ own (all_if (λ x. x < p) (waits e) _ [] ends tt)) tt)
 
 pub low_below : (ss : List SearcherRow) (p g k : ℕ) (before : List Told) (t : Told) → 1 < p → AllByRecursion (IsPast ss p g k) before → low ss before t < p
 low_below ss p g k before t l past =
@@ -113,15 +113,15 @@ low_below ss p g k before t l past =
 
 pub pins_past : (ss : List SearcherRow) (p g k client : ℕ) (before : List Told) → AllByRecursion (IsPast ss p g k) before → AllByRecursion (IsBehind g k) (pins client before)
 pins_past ss p g k client before past =
-    all_filter_map (IsBehind g k) (λ t. if t.asked.client == client then pin_of t else None) before
-    (all_weaker (IsPast ss p g k) (λ e. IfSome (if e.asked.client == client then pin_of e else None) (IsBehind g k)) (λ e x. some_if (IsBehind g k) (e.asked.client == client) (pin_of e) x.pin) before past)
+    all_filter_map (IsBehind g k) (λ t. if t.call.client == client then pin_of t else None) before
+    (all_weaker (IsPast ss p g k) (λ e. IfSome (if e.call.client == client then pin_of e else None) (IsBehind g k)) (λ e x. some_if (IsBehind g k) (e.call.client == client) (pin_of e) x.pin) before past)
 
 -- ---- the rows behind
 
 abbrev pub IsAhead : ℕ → Told → Type 0
 IsAhead p e = IfSome e.row.place (λ x. p ≤ x)
 
-pub ahead : (s : Fields) (st : Standing) (ts : List Turn) (p : ℕ) → p ≤ st.place → AllByRecursion (IsAhead p) (told_from s st ts)
+pub ahead : (s : Config) (st : Standing) (ts : List Turn) (p : ℕ) → p ≤ st.place → AllByRecursion (IsAhead p) (told_from s st ts)
 ahead s st [] p l = tt
 ahead s st (refusing q message ∷ ts) p l = (tt, ahead s (behind s st (refusing q message)) ts p l)
 ahead s st (changing q change ∷ ts) p l = (l, ahead s (behind s st (changing q change)) ts p (omega arith))
@@ -133,7 +133,7 @@ pub high_above : (count p : ℕ) (t : Told) (later : List Told) → p ≤ count 
 high_above count p t later l h =
     min_above count p (filter_map (sets_above t) later) l
     (all_filter_map (λ x. p ≤ x) (sets_above t) later
-    (all_weaker (IsAhead p) (λ e. IfSome (sets_above t e) (λ x. p ≤ x)) (λ e x. some_if (λ x. p ≤ x) (nat_lt t.asked.phase e.asked.phase || (e.asked.client == t.asked.client)) e.row.place x) later h))
+    (all_weaker (IsAhead p) (λ e. IfSome (sets_above t e) (λ x. p ≤ x)) (λ e x. some_if (λ x. p ≤ x) (nat_lt t.call.phase e.call.phase || (e.call.client == t.call.client)) e.row.place x) later h))
 
 -- ---- what a row opened, and its pin
 

@@ -2,7 +2,7 @@
 use Rattle.std.proofs.Common.{◌≡◌, refl, ℕ, suc, List, [], ◌∷◌, length, true, false, ◌==◌, Ok, Err, codes, sym, arith}
 use Rattle.std.proofs.lemmas.Bool.{false≢true}
 use Rattle.std.proofs.lemmas.Bool.Decides.{nat_tests}
-use Rattle.run_laws.specs.Reading.{commit_of}
+use Rattle.run_laws.specs.CallReadings.{commit_of}
 
 not_zero : (n : ℕ) → (suc n == 0) ≡ true → ⊥
 not_zero n h = grind (arith, nat_tests)

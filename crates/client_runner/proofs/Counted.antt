@@ -2,11 +2,11 @@
 use Rattle.std.proofs.Common.{◌≡◌, ℕ, zero, suc, ◌+◌, ◌<◌, ◌≤◌, List, [], ◌∷◌, ◌++◌, length, map, take, count_by, filter_map, cond, ◌&&◌, ◌==◌, eqb, leb, ltb, refl, ap, arith, length-append}
 use Rattle.std.proofs.lemmas.Bool.Decides.{nat_tests}
 use Rattle.std.proofs.lemmas.List.Sums.{sum_by-append, sum_by-cons}
-use Rattle.std.specs.List.{AllByRecursion}
-use Rattle.field_schema.specs.Schema.{Fields}
+use Rattle.std.specs.List.{AllByRecursion, range_with_len}
+use Rattle.script_form.specs.declared.config.Config.{Config}
 use Rattle.run_laws.specs.Rows.{RequestRow, SearcherRow, Output}
-use Rattle.run_laws.specs.Requests.{Told}
-use Rattle.run_laws.specs.Places.{count_up, places, place_count}
+use Rattle.run_laws.specs.Calls.{Told}
+use Rattle.run_laws.specs.Places.{places, place_count}
 use Rattle.run_laws.specs.Lawful.{CountsOff}
 use Rattle.client_runner.specs.Serial.{Standing, start}
 use Rattle.client_runner.proofs.Turns.{Turn, refusing, changing, flushing, opening, asking, behind, told_from, searchers_from, end_of}
@@ -40,16 +40,16 @@ pub between_within : (a b k : ℕ) → a ≤ k → k < b → between a b k ≡ 1
 between_within a b k l m = grind (arith, nat_tests)
 
 -- what holds of each number from a on, n in all
-pub all_counted : (P : ℕ → Type 0) (a n : ℕ) → ((k : ℕ) → a ≤ k → k < a + n → P k) → AllByRecursion P (count_up a n)
+pub all_counted : (P : ℕ → Type 0) (a n : ℕ) → ((k : ℕ) → a ≤ k → k < a + n → P k) → AllByRecursion P (range_with_len a n)
 all_counted P a zero f = tt
 all_counted P a (suc n) f = (f a (omega arith) (omega arith), all_counted P (a + 1) n (λ k l m. f k (omega arith) (omega arith)))
 
 -- ---- the places from a standing on
 
-abbrev ends : Fields → Standing → List Turn → List ℕ
+abbrev ends : Config → Standing → List Turn → List ℕ
 ends s st ts = map (λ (x : SearcherRow). x.ended) (searchers_from s st ts)
 
-abbrev taken : Fields → Standing → List Turn → List ℕ
+abbrev taken : Config → Standing → List Turn → List ℕ
 taken s st ts = filter_map (λ (r : RequestRow). r.place) (map (λ (t : Told). t.row) (told_from s st ts))
 
 add_one : (k e r x p q : ℕ) → p < q → e + r ≡ x + between (p + 1) q k → e + (once p k + r) ≡ x + between p q k
@@ -64,7 +64,7 @@ add_two k e r x p q l h =
     let same : between (p + 1 + 1) q k ≡ between (p + 2) q k = ap (λ (y : ℕ). between y q k) (omega arith) in
     omega arith
 
-pub places_once : (s : Fields) (st : Standing) (ts : List Turn) (k : ℕ) → times k (ends s st ts) + times k (taken s st ts) ≡ once st.current.ended k + between st.place (end_of s st ts).place k
+pub places_once : (s : Config) (st : Standing) (ts : List Turn) (k : ℕ) → times k (ends s st ts) + times k (taken s st ts) ≡ once st.current.ended k + between st.place (end_of s st ts).place k
 places_once s st [] k =
     let none : between st.place st.place k ≡ 0 = between_none st.place k in
     let one : times k (st.current.ended ∷ []) ≡ once st.current.ended k + 0 = times-cons k st.current.ended [] in
@@ -82,7 +82,7 @@ places_once s st (opening q ∷ ts) k =
     (add_two k (times k (ends s (behind s st (opening q)) ts)) (times k (taken s (behind s st (opening q)) ts)) (once st.current.ended k) st.place (end_of s (behind s st (opening q)) ts).place (omega arith) (places_once s (behind s st (opening q)) ts k))
 places_once s st (asking q asked ∷ ts) k = places_once s (behind s st (asking q asked)) ts k
 
-pub places_counted : (s : Fields) (st : Standing) (ts : List Turn) → length (ends s st ts) + length (taken s st ts) + st.place ≡ (end_of s st ts).place + 1
+pub places_counted : (s : Config) (st : Standing) (ts : List Turn) → length (ends s st ts) + length (taken s st ts) + st.place ≡ (end_of s st ts).place + 1
 places_counted s st [] = omega arith
 places_counted s st (refusing q message ∷ ts) = places_counted s (behind s st (refusing q message)) ts
 places_counted s st (changing q change ∷ ts) =
@@ -99,15 +99,15 @@ places_counted s st (asking q asked ∷ ts) = places_counted s (behind s st (ask
 -- ---- the whole run
 
 -- what a serial run prints, read off its turns
-abbrev pub ran : Fields → List Turn → Output
+abbrev pub ran : Config → List Turn → Output
 ran s ts = record { requests = map (λ (t : Told). t.row) (told_from s start ts); searchers = searchers_from s start ts }
 
-places_are : (s : Fields) (ts : List Turn) → places (ran s ts) ≡ (0 ∷ ends s start ts) ++ taken s start ts
+places_are : (s : Config) (ts : List Turn) → places (ran s ts) ≡ (0 ∷ ends s start ts) ++ taken s start ts
 places_are s ts =
     let p : Splits s start ts = splits s start ts in
     ap (λ (x : List SearcherRow). (take 1 (map (λ (y : SearcherRow). y.opened) x) ++ ends s start ts) ++ taken s start ts) p.is
 
-pub place_count_is : (s : Fields) (ts : List Turn) → (end_of s start ts).place ≡ place_count (ran s ts)
+pub place_count_is : (s : Config) (ts : List Turn) → (end_of s start ts).place ≡ place_count (ran s ts)
 place_count_is s ts =
     let same : length (places (ran s ts)) ≡ length ((0 ∷ ends s start ts) ++ taken s start ts) = ap length (places_are s ts) in
     let parts : length ((0 ∷ ends s start ts) ++ taken s start ts) ≡ length (0 ∷ ends s start ts) + length (taken s start ts) = length-append (0 ∷ ends s start ts) (taken s start ts) in
@@ -117,7 +117,7 @@ place_count_is s ts =
 each_once : (q k : ℕ) → k < q → 2 ≤ q → once 0 k + (once 1 k + between 2 q k) ≡ 1
 each_once q k l m = grind (arith, nat_tests)
 
-pub places_count_off : (s : Fields) (ts : List Turn) → CountsOff (place_count (ran s ts)) (places (ran s ts))
+pub places_count_off : (s : Config) (ts : List Turn) → CountsOff (place_count (ran s ts)) (places (ran s ts))
 places_count_off s ts = (refl, all_counted (λ k. times k (places (ran s ts)) ≡ 1) 0 (place_count (ran s ts)) at)
   where
     at : (k : ℕ) → 0 ≤ k → k < 0 + place_count (ran s ts) → times k (places (ran s ts)) ≡ 1

@@ -2,7 +2,7 @@
 use Rattle.std.proofs.Common.{◌≡◌, ℕ, ◌+◌, ◌<◌, List, [], ◌∷◌, ◌++◌, length, take, get_or, ap, sym, ◌∙◌, append_assoc, append-nil}
 use Rattle.std.proofs.lemmas.List.{take_more}
 use Rattle.std.specs.List.{flat_map}
-use Rattle.client_runner.specs.Lines.{Grows}
+use Rattle.client_runner.specs.OutputPieces.{Grows}
 
 pub join : {t0 t1 t2 a b : List ℕ} → Grows t0 t1 a → Grows t1 t2 b → Grows t0 t2 (a ++ b)
 join {t0 = t0} {a = a} {b = b} e f = record { is = f.is ∙ ap (λ t. t ++ b) e.is ∙ append_assoc t0 a b }

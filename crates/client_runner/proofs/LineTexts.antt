@@ -6,7 +6,7 @@ use Rattle.run_laws.specs.Rows.{RequestRow, SearcherRow, Output}
 use Rattle.run_laws.specs.OutputText.{object_line, request_members, searcher_members, output_text}
 use Rattle.client_runner.specs.declared.rows.RequestRow.{RequestRow as Row}
 use Rattle.client_runner.specs.declared.rows.SearcherRow.{SearcherRow as Life}
-use Rattle.client_runner.specs.Lines.{request_line, searcher_line, number_piece, end_piece}
+use Rattle.client_runner.specs.OutputPieces.{request_line, searcher_line, number_piece, end_piece}
 use Rattle.client_runner.specs.Views.{request_view, searcher_view}
 
 -- each line of a request, whichever of its members are there

@@ -2,11 +2,11 @@
 use Rattle.std.proofs.Common.{◌≡◌, ℕ, ◌+◌, ◌-◌, ◌<◌, ◌≤◌, List, [], ◌∷◌, ◌++◌, length, map, drop, count_by, Bool, true, false, cond, ◌&&◌, eqb, nat_le, refl, sym, ap, subst, ◌∙◌, arith, append_assoc, le_refl, zero-add}
 use Rattle.std.proofs.lemmas.Bool.{ne_eqb, eq-eqb, le-leb}
 use Rattle.std.proofs.lemmas.List.Sums.{sum_by-cons}
-use Rattle.std.specs.List.{AllByRecursion}
-use Rattle.field_schema.specs.Schema.{Fields}
+use Rattle.std.specs.List.{AllByRecursion, range_with_len}
+use Rattle.script_form.specs.declared.config.Config.{Config}
 use Rattle.run_laws.specs.Rows.{SearcherRow, Output}
-use Rattle.run_laws.specs.Requests.{Told}
-use Rattle.run_laws.specs.Places.{count_up, is_some_of, current_at}
+use Rattle.run_laws.specs.Calls.{Told}
+use Rattle.run_laws.specs.Places.{is_some_of, current_at}
 use Rattle.run_laws.specs.Bounds.{is_commit}
 use Rattle.run_laws.specs.Lawful.{opens, IsOpenedOnce, BeginsWithFirst, Ascends, ServesUnlessOlder, IsWarmed}
 use Rattle.client_runner.specs.Serial.{Standing, start, acquired_once_more, next_searcher}
@@ -55,7 +55,7 @@ once_here t ts x e f none l = record {
 }
 
 -- no request from a standing on opens the current generation or an earlier one
-none_opens : (s : Fields) (st : Standing) (ts : List Turn) (g : ℕ) → AllByRecursion (IsTurn s) ts → g ≤ st.current.generation → AllByRecursion (λ t. opens g t ≡ false) (told_from s st ts)
+none_opens : (s : Config) (st : Standing) (ts : List Turn) (g : ℕ) → AllByRecursion (IsTurn s) ts → g ≤ st.current.generation → AllByRecursion (λ t. opens g t ≡ false) (told_from s st ts)
 none_opens s st [] g i l = tt
 none_opens s st (refusing q message ∷ ts) g i l = (and_off (is_commit q.verb) false refl, none_opens s (behind s st (refusing q message)) ts g i.1 l)
 none_opens s st (changing q change ∷ ts) g i l = (and_off (is_commit q.verb) false refl, none_opens s (behind s st (changing q change)) ts g i.1 l)
@@ -72,7 +72,7 @@ behind_more : (t : Told) (ts : List Told) (g h : ℕ) → h ≤ g → ((n : ℕ)
 behind_more t ts g h l f xs all =
     all_weaker (IsOpenedBehind ts g) (IsOpenedBehind (t ∷ ts) h) (λ x y. record { once = once_more t ts x (f x.generation y.above) y.once; above = (let z : g < x.generation = y.above in omega arith) }) xs all
 
-pub opened_behind : (s : Fields) (st : Standing) (ts : List Turn) → AllByRecursion (IsTurn s) ts → AllByRecursion (IsOpenedBehind (told_from s st ts) st.current.generation) (drop 1 (searchers_from s st ts))
+pub opened_behind : (s : Config) (st : Standing) (ts : List Turn) → AllByRecursion (IsTurn s) ts → AllByRecursion (IsOpenedBehind (told_from s st ts) st.current.generation) (drop 1 (searchers_from s st ts))
 opened_behind s st [] i = tt
 opened_behind s st (refusing q message ∷ ts) i = behind_more (told_in s st (refusing q message)) _ st.current.generation st.current.generation (le_refl _) (λ n l. and_off (is_commit q.verb) false refl) (drop 1 (searchers_from s (behind s st (refusing q message)) ts)) (opened_behind s (behind s st (refusing q message)) ts i.1)
 opened_behind s st (changing q change ∷ ts) i = behind_more (told_in s st (changing q change)) _ st.current.generation st.current.generation (le_refl _) (λ n l. and_off (is_commit q.verb) false refl) (drop 1 (searchers_from s (behind s st (changing q change)) ts)) (opened_behind s (behind s st (changing q change)) ts i.1)
@@ -93,12 +93,12 @@ opened_behind s st (opening q ∷ ts) i =
     )
 opened_behind s st (asking q asked ∷ ts) i = behind_more (told_in s st (asking q asked)) _ st.current.generation st.current.generation (le_refl _) (λ n l. and_no (is_commit q.verb) (eqb n st.current.generation) (ap is_commit i.0.0)) (drop 1 (searchers_from s (behind s st (asking q asked)) ts)) (opened_behind s (behind s st (asking q asked)) ts i.1)
 
-pub opened_once : (s : Fields) (ts : List Turn) → AllByRecursion (IsTurn s) ts → AllByRecursion (IsOpenedOnce (told_from s start ts)) (drop 1 (searchers_from s start ts))
+pub opened_once : (s : Config) (ts : List Turn) → AllByRecursion (IsTurn s) ts → AllByRecursion (IsOpenedOnce (told_from s start ts)) (drop 1 (searchers_from s start ts))
 opened_once s ts i = all_weaker (IsOpenedBehind (told_from s start ts) 1) (IsOpenedOnce (told_from s start ts)) (λ x y. y.once) (drop 1 (searchers_from s start ts)) (opened_behind s start ts i)
 
 -- ---- by the chain alone
 
-pub begins : (s : Fields) (ts : List Turn) → BeginsWithFirst (searchers_from s start ts)
+pub begins : (s : Config) (ts : List Turn) → BeginsWithFirst (searchers_from s start ts)
 begins s ts =
     let p : Splits s start ts = splits s start ts in
     subst (λ (x : List SearcherRow). BeginsWithFirst x) (sym p.is) (refl, refl, refl)
@@ -113,7 +113,7 @@ pub ascends : (g p : ℕ) (ss : List SearcherRow) (h q : ℕ) → Chain g p ss h
 ascends g p [] h q c = tt
 ascends g p (x ∷ ss) h q c = (all_above x.opened (g + 1) (x.opened + 2) ss h q (omega arith) c.1, ascends (g + 1) (x.opened + 2) ss h q c.1)
 
-pub generations_are : (g p : ℕ) (ss : List SearcherRow) (h q : ℕ) → Chain g p ss h q → map (λ (x : SearcherRow). x.generation) ss ≡ count_up g (length ss)
+pub generations_are : (g p : ℕ) (ss : List SearcherRow) (h q : ℕ) → Chain g p ss h q → map (λ (x : SearcherRow). x.generation) ss ≡ range_with_len g (length ss)
 generations_are g p [] h q c = refl
 generations_are g p (x ∷ ss) h q c =
     let n : IsNext g p x = c.0 in
@@ -126,7 +126,7 @@ pub record LivesOn (o : Output) (x : SearcherRow) : Type 0 where
   pub serves : ServesUnlessOlder o x
   pub warmed : IsWarmed o x
 
-pub live_on : (s : Fields) (o : Output) (st : Standing) (ts : List Turn) → Stands st → o.searchers ≡ st.earlier ++ searchers_from s st ts → AllByRecursion (LivesOn o) (drop 1 (searchers_from s st ts))
+pub live_on : (s : Config) (o : Output) (st : Standing) (ts : List Turn) → Stands st → o.searchers ≡ st.earlier ++ searchers_from s st ts → AllByRecursion (LivesOn o) (drop 1 (searchers_from s st ts))
 live_on s o st [] h e = tt
 live_on s o st (refusing q message ∷ ts) h e = live_on s o (behind s st (refusing q message)) ts (stands_on s st (refusing q message) h) e
 live_on s o st (changing q change ∷ ts) h e = live_on s o (behind s st (changing q change)) ts (stands_on s st (changing q change) h) e

@@ -6,7 +6,6 @@ use Rattle.std.specs.List.{All}
 use Rattle.std.specs.Arc.{arc_value}
 use Rattle.std.specs.declared.alloc.Global.{Global}
 use Rattle.std.specs.declared.sync.Arc.{Arc}
-use Rattle.std.specs.Cmp.Lexicographic.{slice_cmp}
 use Rattle.std.specs.BTreeMap.{BTreeMap, get}
 use Rattle.std.proofs.Math.Seq.{map-set_same, take-length}
 use Rattle.std.proofs.lemmas.Bool.{le-leb}
@@ -15,14 +14,13 @@ use Rattle.std.proofs.lemmas.Option.{none-some}
 use Rattle.std.proofs.lemmas.List.{get_or-map, take-map, length-map}
 use Rattle.std.proofs.lemmas.List.Elements.{All-head, All-tail, All-push, All-weaker}
 use mathlib.Core.Logic.{⊎_elim}
-use Rattle.field_schema.specs.declared.key.Key.{Key}
 use Rattle.field_schema.specs.declared.key.Key.TheVariants.{Str}
-use Rattle.field_schema.specs.Keys.{key_cmp}
+use Rattle.field_schema.specs.Bytes.{bytes_cmp}
 use Rattle.query_tree.specs.declared.query.Query.{Term}
 use Rattle.query_tree.specs.Matches.{top}
-use Rattle.doc_model.specs.Document.{Document, keys_at}
+use Rattle.doc_model.specs.Document.{Document}
 use Rattle.client_runner.specs.declared.index.Slot.{Slot}
-use Rattle.client_runner.specs.Kept.{HasSuccessorBelow, IsPlaced, Stands, doc_in, documents, is_hit, is_latest, is_seen, key_in, latest, seen}
+use Rattle.client_runner.specs.IndexState.{HasSuccessorBelow, IsPlaced, Stands, doc_in, documents, is_hit, is_latest, is_seen, id_in, latest, seen}
 
 -- ---- the slot of a document that loses its place
 
@@ -64,20 +62,20 @@ all_seen n slots at_end within =
 
 -- ---- the map leads to documents that stand
 
-latest_at : (id : ℕ) (o : Option ℕ) (doc : Arc Document Global) (keys : List Key) → option_map (λ a. keys_at (arc_value a) id) (cond (is_none o) (Some doc) None) ≡ Some keys → o ≡ None
-latest_at id None doc keys h = refl
-latest_at id (Some j) doc keys h = absurd (none-some keys h)
+latest_at : (o : Option ℕ) (doc : Arc Document Global) (id : List ℕ) → option_map (λ a. (arc_value a).id) (cond (is_none o) (Some doc) None) ≡ Some id → o ≡ None
+latest_at None doc id h = refl
+latest_at (Some j) doc id h = absurd (none-some id h)
 
-pub stands-pushed : (id : ℕ) (slots : List Slot) (s : Slot) (p : ℕ) (keys : List Key) → key_in id (map latest slots) p ≡ Some keys
+pub stands-pushed : (slots : List Slot) (s : Slot) (p : ℕ) (id : List ℕ) → id_in (map latest slots) p ≡ Some id
     → IsSomeAnd (slice_get (slots ++ s ∷ []) p) (λ t. t.successor ≡ None)
-stands-pushed id [] s p keys h = absurd (none-some keys h)
-stands-pushed id (x ∷ slots) s zero keys h = latest_at id x.successor x.doc keys h
-stands-pushed id (x ∷ slots) s (suc p) keys h = stands-pushed id slots s p keys h
+stands-pushed [] s p id h = absurd (none-some id h)
+stands-pushed (x ∷ slots) s zero id h = latest_at x.successor x.doc id h
+stands-pushed (x ∷ slots) s (suc p) id h = stands-pushed slots s p id h
 
-pub older_stands : (id : ℕ) (keys : List Key) (slots pushed : List Slot) (s : Slot) (m : BTreeMap (List Key) ℕ) (older : Option ℕ) → IsPlaced id (map latest slots) m
-    → older ≡ get (slice_cmp key_cmp) m keys → pushed ≡ slots ++ s ∷ [] → Stands older pushed
-older_stands id keys slots pushed s m None placed old is = record { is = tt }
-older_stands id keys slots pushed s m (Some p) placed old is = record { is = rw is (stands-pushed id slots s p keys (placed.leads keys p (sym old))) }
+pub older_stands : (id : List ℕ) (slots pushed : List Slot) (s : Slot) (m : BTreeMap (List ℕ) ℕ) (older : Option ℕ) → IsPlaced (map latest slots) m
+    → older ≡ get bytes_cmp m id → pushed ≡ slots ++ s ∷ [] → Stands older pushed
+older_stands id slots pushed s m None placed old is = record { is = tt }
+older_stands id slots pushed s m (Some p) placed old is = record { is = rw is (stands-pushed slots s p id (placed.leads id p (sym old))) }
 
 -- ---- the slots with one more
 
@@ -123,16 +121,16 @@ filter_seen false p doc slots = refl
 filter_seen true p doc slots = refl
 
 hit_documents : (opened field : ℕ) (word : List ℕ) (slots : List Slot)
-    → map doc_in (filter (is_hit opened field word) slots) ≡ filter (λ d. top d (Term field (Str word))) (documents (map (seen opened) slots))
+    → map doc_in (filter (is_hit opened field word) slots) ≡ filter (λ d. top d.values (Term field (Str word))) (documents (map (seen opened) slots))
 hit_documents opened field word [] = refl
 hit_documents opened field word (s ∷ slots) =
-    hit_more (is_seen opened s) (top (doc_in s) (Term field (Str word))) s (filter (is_hit opened field word) slots) _ (hit_documents opened field word slots)
-    ∙ filter_seen (is_seen opened s) (λ d. top d (Term field (Str word))) s.doc (map (seen opened) slots)
+    hit_more (is_seen opened s) (top (doc_in s).values (Term field (Str word))) s (filter (is_hit opened field word) slots) _ (hit_documents opened field word slots)
+    ∙ filter_seen (is_seen opened s) (λ d. top d.values (Term field (Str word))) s.doc (map (seen opened) slots)
 
 -- the hits among the slots that were there when the searcher was opened are the documents that match
 pub found_in : (opened field : ℕ) (word : List ℕ) (slots : List Slot) (served : List Document) → documents (take opened (map (seen opened) slots)) ≡ served
-    → map doc_in (filter (is_hit opened field word) (take opened slots)) ≡ filter (λ d. top d (Term field (Str word))) served
+    → map doc_in (filter (is_hit opened field word) (take opened slots)) ≡ filter (λ d. top d.values (Term field (Str word))) served
 found_in opened field word slots served is =
     hit_documents opened field word (take opened slots)
-    ∙ ap (λ xs. filter (λ d. top d (Term field (Str word))) (documents xs)) (sym (take-map (seen opened) opened slots))
-    ∙ ap (filter (λ d. top d (Term field (Str word)))) is
+    ∙ ap (λ xs. filter (λ d. top d.values (Term field (Str word))) (documents xs)) (sym (take-map (seen opened) opened slots))
+    ∙ ap (filter (λ d. top d.values (Term field (Str word)))) is

@@ -1,6 +1,6 @@
 -- What is true of the searchers wherever a serial run stands.
 use Rattle.std.proofs.Common.{◌≡◌, ℕ, ◌+◌, ◌≤◌, List, [], ◌∷◌, ◌++◌, true, Some, refl, sym, ap, subst, ◌∙◌, arith, le_refl}
-use Rattle.field_schema.specs.Schema.{Fields}
+use Rattle.script_form.specs.declared.config.Config.{Config}
 use Rattle.run_laws.specs.Rows.{SearcherRow}
 use Rattle.run_laws.specs.Places.{opened_of, ended_of, current_at}
 use Rattle.client_runner.specs.Serial.{Standing, acquired_once_more, next_searcher}
@@ -14,7 +14,7 @@ pub record Stands (st : Standing) : Type 0 where
   pub registered : st.current.registered ≡ true
   pub room : st.current.opened + 2 ≤ st.place
 
-pub stands_on : (s : Fields) (st : Standing) (t : Turn) → Stands st → Stands (behind s st t)
+pub stands_on : (s : Config) (st : Standing) (t : Turn) → Stands st → Stands (behind s st t)
 stands_on s st (refusing q message) h = record { earlier = h.earlier; ended = h.ended; registered = h.registered; room = h.room }
 stands_on s st (changing q change) h = record { earlier = h.earlier; ended = h.ended; registered = h.registered; room = omega arith }
 stands_on s st (flushing q) h = record { earlier = h.earlier; ended = h.ended; registered = h.registered; room = omega arith }
@@ -29,13 +29,13 @@ stands_on s st (opening q) h =
 stands_on s st (asking q asked) h = record { earlier = h.earlier; ended = h.ended; registered = h.registered; room = h.room }
 
 -- the searchers to come are the current one, acquired so often in the end, and later ones
-pub record Splits (s : Fields) (st : Standing) (ts : List Turn) : Type 0 where
+pub record Splits (s : Config) (st : Standing) (ts : List Turn) : Type 0 where
   pub acquired : ℕ
   pub tail : List SearcherRow
   pub is : searchers_from s st ts ≡ record st.current { acquired = acquired } ∷ tail
   pub later : Chain (st.current.generation + 1) st.place tail ((end_of s st ts).current.generation + 1) (end_of s st ts).place
 
-pub splits : (s : Fields) (st : Standing) (ts : List Turn) → Splits s st ts
+pub splits : (s : Config) (st : Standing) (ts : List Turn) → Splits s st ts
 splits s st [] = record { acquired = st.current.acquired; tail = []; is = refl; later = (refl, le_refl _) }
 splits s st (refusing q message ∷ ts) =
     let rest : Splits s (behind s st (refusing q message)) ts = splits s (behind s st (refusing q message)) ts in
@@ -59,14 +59,14 @@ splits s st (asking q asked ∷ ts) =
     let rest : Splits s (behind s st (asking q asked)) ts = splits s (behind s st (asking q asked)) ts in
     record { acquired = rest.acquired; tail = rest.tail; is = rest.is; later = rest.later }
 
-pub place_grows : (s : Fields) (st : Standing) (ts : List Turn) → st.place ≤ (end_of s st ts).place
+pub place_grows : (s : Config) (st : Standing) (ts : List Turn) → st.place ≤ (end_of s st ts).place
 place_grows s st ts =
     let p : Splits s st ts = splits s st ts in
     (chain_ascends _ st.place p.tail _ _ p.later).1
 
 -- ---- look-ups among the searchers of the whole run
 
-module _ (s : Fields) (st : Standing) (ts : List Turn) (ss : List SearcherRow) (h : Stands st) (e : ss ≡ st.earlier ++ searchers_from s st ts) where
+module _ (s : Config) (st : Standing) (ts : List Turn) (ss : List SearcherRow) (h : Stands st) (e : ss ≡ st.earlier ++ searchers_from s st ts) where
   split : (p : Splits s st ts) → ss ≡ st.earlier ++ record st.current { acquired = p.acquired } ∷ p.tail
   split p = e ∙ ap (λ (x : List SearcherRow). st.earlier ++ x) p.is
 

@@ -3,7 +3,7 @@ use Rattle.std.proofs.Common.{◌≡◌, ⊎_elim, ℕ, ◌+◌, ◌<◌, List, 
 use Rattle.std.proofs.lemmas.Bool.{ne_eqb, eq-eqb, cases_eq}
 use Rattle.std.proofs.lemmas.List.Elements.{filter_map-append}
 use Rattle.std.specs.List.{AllByRecursion, cons_option}
-use Rattle.field_schema.specs.Schema.{Fields}
+use Rattle.script_form.specs.declared.config.Config.{Config}
 use Rattle.run_laws.specs.Rows.{Verb, add, delete, query, commit, SearcherRow}
 use Rattle.run_laws.specs.Bounds.{is_query}
 use Rattle.run_laws.specs.Lawful.{CountsOff, pin_of, tickets_of, CountsTickets}
@@ -31,7 +31,7 @@ of_none g (pin ∷ pins) h =
 -- ---- the pins from a standing on
 
 -- those of the queries
-abbrev pub queried : Fields → Standing → List Turn → List (ℕ × ℕ)
+abbrev pub queried : Config → Standing → List Turn → List (ℕ × ℕ)
 queried s st [] = []
 queried s st (refusing q message ∷ ts) = queried s (behind s st (refusing q message)) ts
 queried s st (changing q change ∷ ts) = queried s (behind s st (changing q change)) ts
@@ -40,7 +40,7 @@ queried s st (opening q ∷ ts) = queried s (behind s st (opening q)) ts
 queried s st (asking q asked ∷ ts) = (st.current.generation, st.current.acquired) ∷ queried s (behind s st (asking q asked)) ts
 
 -- those of the warmings
-abbrev pub warmed : Fields → Standing → List Turn → List (ℕ × ℕ)
+abbrev pub warmed : Config → Standing → List Turn → List (ℕ × ℕ)
 warmed s st [] = []
 warmed s st (refusing q message ∷ ts) = warmed s (behind s st (refusing q message)) ts
 warmed s st (changing q change ∷ ts) = warmed s (behind s st (changing q change)) ts
@@ -57,7 +57,7 @@ no_pin_is commit = refl
 pin_is : (pin : ℕ × ℕ) (verb : Verb) → verb ≡ query → (if is_query verb then Some pin else None) ≡ Some pin
 pin_is pin verb e = ap (λ (v : Verb). if is_query v then Some pin else None) e
 
-queried_are : (s : Fields) (st : Standing) (ts : List Turn) → AllByRecursion (IsTurn s) ts → filter_map pin_of (told_from s st ts) ≡ queried s st ts
+queried_are : (s : Config) (st : Standing) (ts : List Turn) → AllByRecursion (IsTurn s) ts → filter_map pin_of (told_from s st ts) ≡ queried s st ts
 queried_are s st [] i = refl
 queried_are s st (refusing q message ∷ ts) i = ap₂ (λ (o : Option (ℕ × ℕ)) (xs : List (ℕ × ℕ)). cons_option o xs) (no_pin_is q.verb) (queried_are s (behind s st (refusing q message)) ts i.1)
 queried_are s st (changing q change ∷ ts) i = ap₂ (λ (o : Option (ℕ × ℕ)) (xs : List (ℕ × ℕ)). cons_option o xs) (no_pin_is q.verb) (queried_are s (behind s st (changing q change)) ts i.1)
@@ -65,7 +65,7 @@ queried_are s st (flushing q ∷ ts) i = ap₂ (λ (o : Option (ℕ × ℕ)) (xs
 queried_are s st (opening q ∷ ts) i = ap₂ (λ (o : Option (ℕ × ℕ)) (xs : List (ℕ × ℕ)). cons_option o xs) (no_pin_is q.verb) (queried_are s (behind s st (opening q)) ts i.1)
 queried_are s st (asking q asked ∷ ts) i = ap₂ (λ (o : Option (ℕ × ℕ)) (xs : List (ℕ × ℕ)). cons_option o xs) (pin_is (st.current.generation, st.current.acquired) q.verb i.0.0) (queried_are s (behind s st (asking q asked)) ts i.1)
 
-warmed_are : (s : Fields) (st : Standing) (ts : List Turn) → filter_map (λ (x : SearcherRow). x.from) (searchers_from s st ts) ≡ cons_option st.current.from (warmed s st ts)
+warmed_are : (s : Config) (st : Standing) (ts : List Turn) → filter_map (λ (x : SearcherRow). x.from) (searchers_from s st ts) ≡ cons_option st.current.from (warmed s st ts)
 warmed_are s st [] = refl
 warmed_are s st (refusing q message ∷ ts) = warmed_are s (behind s st (refusing q message)) ts
 warmed_are s st (changing q change ∷ ts) = warmed_are s (behind s st (changing q change)) ts
@@ -75,7 +75,7 @@ warmed_are s st (asking q asked ∷ ts) = warmed_are s (behind s st (asking q as
 
 -- ---- no pin of an earlier generation
 
-queried_above : (s : Fields) (st : Standing) (ts : List Turn) (g : ℕ) → g < st.current.generation → AllByRecursion (λ pin. g < pin.0) (queried s st ts)
+queried_above : (s : Config) (st : Standing) (ts : List Turn) (g : ℕ) → g < st.current.generation → AllByRecursion (λ pin. g < pin.0) (queried s st ts)
 queried_above s st [] g l = tt
 queried_above s st (refusing q message ∷ ts) g l = queried_above s (behind s st (refusing q message)) ts g l
 queried_above s st (changing q change ∷ ts) g l = queried_above s (behind s st (changing q change)) ts g l
@@ -83,7 +83,7 @@ queried_above s st (flushing q ∷ ts) g l = queried_above s (behind s st (flush
 queried_above s st (opening q ∷ ts) g l = queried_above s (behind s st (opening q)) ts g (omega arith)
 queried_above s st (asking q asked ∷ ts) g l = (l, queried_above s (behind s st (asking q asked)) ts g l)
 
-warmed_above : (s : Fields) (st : Standing) (ts : List Turn) (g : ℕ) → g < st.current.generation → AllByRecursion (λ pin. g < pin.0) (warmed s st ts)
+warmed_above : (s : Config) (st : Standing) (ts : List Turn) (g : ℕ) → g < st.current.generation → AllByRecursion (λ pin. g < pin.0) (warmed s st ts)
 warmed_above s st [] g l = tt
 warmed_above s st (refusing q message ∷ ts) g l = warmed_above s (behind s st (refusing q message)) ts g l
 warmed_above s st (changing q change ∷ ts) g l = warmed_above s (behind s st (changing q change)) ts g l
@@ -91,7 +91,7 @@ warmed_above s st (flushing q ∷ ts) g l = warmed_above s (behind s st (flushin
 warmed_above s st (opening q ∷ ts) g l = (l, warmed_above s (behind s st (opening q)) ts g (omega arith))
 warmed_above s st (asking q asked ∷ ts) g l = warmed_above s (behind s st (asking q asked)) ts g l
 
-generations_above : (s : Fields) (st : Standing) (ts : List Turn) (g : ℕ) → g < st.current.generation → AllByRecursion (λ x. g < x.generation) (searchers_from s st ts)
+generations_above : (s : Config) (st : Standing) (ts : List Turn) (g : ℕ) → g < st.current.generation → AllByRecursion (λ x. g < x.generation) (searchers_from s st ts)
 generations_above s st [] g l = (l, tt)
 generations_above s st (refusing q message ∷ ts) g l = generations_above s (behind s st (refusing q message)) ts g l
 generations_above s st (changing q change ∷ ts) g l = generations_above s (behind s st (changing q change)) ts g l
@@ -183,7 +183,7 @@ counts_current g a qs ws e f =
     (subst (λ (xs : List ℕ). CountsBetween (of_generation g qs) xs a (a + 1)) (sym (of_this g a ws ∙ ap (λ (xs : List ℕ). a ∷ xs) f))
     (subst (λ (xs : List ℕ). CountsBetween xs (a ∷ []) a (a + 1)) (sym e) (counts_one a)))
 
-counts_on : (s : Fields) (st : Standing) (ts : List Turn) → AllByRecursion (CountsOn st.current.generation st.current.acquired (queried s st ts) (warmed s st ts)) (searchers_from s st ts)
+counts_on : (s : Config) (st : Standing) (ts : List Turn) → AllByRecursion (CountsOn st.current.generation st.current.acquired (queried s st ts) (warmed s st ts)) (searchers_from s st ts)
 counts_on s st [] = (subst (λ (m : ℕ). CountsBetween [] [] m st.current.acquired) (sym (from_here st.current.generation st.current.acquired)) (counts_none st.current.acquired), tt)
 counts_on s st (refusing q message ∷ ts) = counts_on s (behind s st (refusing q message)) ts
 counts_on s st (changing q change ∷ ts) = counts_on s (behind s st (changing q change)) ts
@@ -209,12 +209,12 @@ counts_off n xs ys c =
     let l : length xs + length ys + 0 ≡ n = c.long in
     (length-append xs ys ∙ omega arith, all_counted (λ k. times k (xs ++ ys) ≡ 1) 0 n (λ k low high. times-append k xs ys ∙ (c.each k ∙ between_within 0 n k low (omega arith))))
 
-tickets_are : (s : Fields) (ts : List Turn) (g : ℕ) → AllByRecursion (IsTurn s) ts → tickets_of g (told_from s start ts) (searchers_from s start ts) ≡ of_generation g (queried s start ts) ++ of_generation g (warmed s start ts)
+tickets_are : (s : Config) (ts : List Turn) (g : ℕ) → AllByRecursion (IsTurn s) ts → tickets_of g (told_from s start ts) (searchers_from s start ts) ≡ of_generation g (queried s start ts) ++ of_generation g (warmed s start ts)
 tickets_are s ts g i =
     ap₂ (λ (xs ys : List (ℕ × ℕ)). of_generation g (xs ++ ys)) (queried_are s start ts i) (warmed_are s start ts)
     ∙ filter_map-append (λ (pin : ℕ × ℕ). if pin.0 == g then Some pin.1 else None) (queried s start ts) (warmed s start ts)
 
-pub counts_tickets : (s : Fields) (ts : List Turn) → AllByRecursion (IsTurn s) ts → AllByRecursion (CountsTickets (told_from s start ts) (ran s ts)) (searchers_from s start ts)
+pub counts_tickets : (s : Config) (ts : List Turn) → AllByRecursion (IsTurn s) ts → AllByRecursion (CountsTickets (told_from s start ts) (ran s ts)) (searchers_from s start ts)
 counts_tickets s ts i =
     all_weaker (CountsOn 1 0 (queried s start ts) (warmed s start ts)) (CountsTickets (told_from s start ts) (ran s ts)) one (searchers_from s start ts) (counts_on s start ts)
   where

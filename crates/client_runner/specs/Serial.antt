@@ -1,6 +1,5 @@
 -- The serial run: each line of the script in turn.
 use Rattle.std.specs.Prelude.{ℕ, ◌+◌, List, [], ◌∷◌, ◌++◌, fold, Bool, true, Option, Some, None, Result, Ok, Err}
-use Rattle.field_schema.specs.Schema.{Fields}
 use Rattle.doc_model.specs.Document.{Document}
 use Rattle.search_model.specs.Live.{Change, after}
 use Rattle.search_model.specs.Answer.{Asked, answer}
@@ -8,8 +7,8 @@ use Rattle.search_model.specs.Reply.{Outcome, found, accepted, refused, reply_te
 use Rattle.script_form.specs.declared.config.Config.{Config}
 use Rattle.script_form.specs.declared.script.Line.{Line}
 use Rattle.run_laws.specs.Rows.{Verb, add, delete, query, commit, RequestRow, SearcherRow, Output}
-use Rattle.run_laws.specs.Requests.{Request, request_as}
-use Rattle.run_laws.specs.Reading.{update_of, commit_of, query_of, CommitForm}
+use Rattle.run_laws.specs.Calls.{Call, call_as}
+use Rattle.run_laws.specs.CallReadings.{update_of, commit_of, query_of, CommitForm}
 
 -- where a serial run stands: what the updates leave, what the current searcher sees, the next place, the rows so far, and the searchers
 pub record Standing : Type 0 where
@@ -32,15 +31,15 @@ abbrev pub acquired_once_more : SearcherRow → SearcherRow
 acquired_once_more s = record s { acquired = s.acquired + 1 }
 
 -- the row of a request with this outcome
-abbrev pub row_for : Fields → Request → Option ℕ → Option ℕ → Option ℕ → Outcome → RequestRow
-row_for s q place generation ticket o = record {
+abbrev pub row_for : Config → Call → Option ℕ → Option ℕ → Option ℕ → Outcome → RequestRow
+row_for c q place generation ticket o = record {
   client = q.client;
   line = q.line;
   verb = q.verb;
   place = place;
   generation = generation;
   ticket = ticket;
-  reply = reply_text s o;
+  reply = reply_text c.schema o;
   code = code_of o;
   found = found_of o;
   docs = docs_of o;
@@ -51,14 +50,14 @@ abbrev pub told_too : Standing → RequestRow → Standing
 told_too st row = record st { rows = st.rows ++ row ∷ [] }
 
 -- a refused request changes nothing
-abbrev pub refuse : Fields → Request → Standing → List ℕ → Standing
-refuse s q st message = told_too st (row_for s q None None None (refused message))
+abbrev pub refuse : Config → Call → Standing → List ℕ → Standing
+refuse c q st message = told_too st (row_for c q None None None (refused message))
 
 -- an update takes the next place
-abbrev pub update : Fields → Request → Standing → Result Change (List ℕ) → Standing
-update s q st (Ok change) =
-    told_too (record st { docs = after s.key st.docs change; place = st.place + 1 }) (row_for s q (Some st.place) None None accepted)
-update s q st (Err message) = refuse s q st message
+abbrev pub update : Config → Call → Standing → Result Change (List ℕ) → Standing
+update c q st (Ok change) =
+    told_too (record st { docs = after st.docs change; place = st.place + 1 }) (row_for c q (Some st.place) None None accepted)
+update c q st (Err message) = refuse c q st message
 
 -- the searcher that an opening at this place gives, warmed from the current one and registered at the next place
 abbrev pub next_searcher : Standing → SearcherRow
@@ -72,45 +71,45 @@ next_searcher st = record {
 }
 
 -- an opening takes two places, and the new searcher sees what the updates leave
-abbrev pub open_next : Fields → Request → Standing → Standing
-open_next s q st =
+abbrev pub open_next : Config → Call → Standing → Standing
+open_next c q st =
     told_too
     (record st { served = st.docs; place = st.place + 2; earlier = st.earlier ++ acquired_once_more st.current ∷ []; current = next_searcher st })
-    (row_for s q (Some st.place) (Some (st.current.generation + 1)) None accepted)
+    (row_for c q (Some st.place) (Some (st.current.generation + 1)) None accepted)
 
 -- a commit without a searcher takes a place
-abbrev pub flush : Fields → Request → Standing → Standing
-flush s q st = told_too (record st { place = st.place + 1 }) (row_for s q (Some st.place) None None accepted)
+abbrev pub flush : Config → Call → Standing → Standing
+flush c q st = told_too (record st { place = st.place + 1 }) (row_for c q (Some st.place) None None accepted)
 
-abbrev pub by_form : Fields → Request → Standing → Bool → Standing
-by_form s q st true = open_next s q st
-by_form s q st _ = flush s q st
+abbrev pub by_form : Config → Call → Standing → Bool → Standing
+by_form c q st true = open_next c q st
+by_form c q st _ = flush c q st
 
-abbrev pub commit_as : Fields → Request → Standing → Result CommitForm (List ℕ) → Standing
-commit_as s q st (Ok form) = by_form s q st form.opens
-commit_as s q st (Err message) = refuse s q st message
+abbrev pub commit_as : Config → Call → Standing → Result CommitForm (List ℕ) → Standing
+commit_as c q st (Ok form) = by_form c q st form.opens
+commit_as c q st (Err message) = refuse c q st message
 
 -- a query acquires the current searcher and is answered on what it sees
-abbrev pub query_as : Fields → Request → Standing → Result Asked (List ℕ) → Standing
-query_as s q st (Ok asked) =
+abbrev pub query_as : Config → Call → Standing → Result Asked (List ℕ) → Standing
+query_as c q st (Ok asked) =
     told_too (record st { current = acquired_once_more st.current })
-    (row_for s q None (Some st.current.generation) (Some st.current.acquired) (found asked (answer st.served asked)))
-query_as s q st (Err message) = refuse s q st message
+    (row_for c q None (Some st.current.generation) (Some st.current.acquired) (found asked (answer st.served asked)))
+query_as c q st (Err message) = refuse c q st message
 
 -- a request in its turn
-abbrev pub serve_as : Verb → Fields → Request → Standing → Standing
-serve_as add s q st = update s q st (update_of s q)
-serve_as delete s q st = update s q st (update_of s q)
-serve_as query s q st = query_as s q st (query_of s q.body)
-serve_as commit s q st = commit_as s q st (commit_of q.body)
+abbrev pub serve_as : Verb → Config → Call → Standing → Standing
+serve_as add c q st = update c q st (update_of c q)
+serve_as delete c q st = update c q st (update_of c q)
+serve_as query c q st = query_as c q st (query_of c q.body)
+serve_as commit c q st = commit_as c q st (commit_of q.body)
 
-abbrev pub serve : Fields → Standing → Option Request → Standing
-serve s st None = st
-serve s st (Some q) = serve_as q.verb s q st
+abbrev pub serve : Config → Standing → Option Call → Standing
+serve c st None = st
+serve c st (Some q) = serve_as q.verb c q st
 
 -- a line in its turn
 abbrev pub step : Config → Standing → Line → Standing
-step c st line = serve c.schema st (request_as 0 line.number line.what)
+step c st line = serve c st (call_as 0 line.number line.what)
 
 abbrev pub output_at : Standing → Output
 output_at st = record { requests = st.rows; searchers = st.earlier ++ st.current ∷ [] }

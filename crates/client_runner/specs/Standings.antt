@@ -1,13 +1,13 @@
 -- The runner's state as the serial run's.
 use Rattle.std.specs.Prelude.{◌≡◌, ℕ, ◌+◌, ◌*◌, ◌<◌, ◌^◌, List, length, map, Option}
-use Rattle.field_schema.specs.Schema.{Fields}
+use Rattle.script_form.specs.declared.config.Config.{Config}
 use Rattle.doc_model.specs.Document.{Document}
 use Rattle.query_tree.specs.declared.query.Query.{Query}
 use Rattle.search_model.specs.Answer.{answer}
-use Rattle.script_form.specs.Requests.{first_ten}
+use Rattle.script_form.specs.BodyForms.{first_ten}
 use Rattle.search_model.specs.Reply.{Outcome, found, reply_text, code_of, found_of, docs_of}
 use Rattle.run_laws.specs.Rows as plain
-use Rattle.run_laws.specs.Requests.{Request}
+use Rattle.run_laws.specs.Calls.{Call}
 use Rattle.client_runner.specs.declared.runner.Head.{Head}
 use Rattle.client_runner.specs.declared.runner.Reply.{Reply}
 use Rattle.client_runner.specs.declared.runner.Runner.{Runner}
@@ -25,16 +25,16 @@ standing r = record {
 }
 
 -- the request that a head names, with its body
-abbrev pub request_of : Head → List ℕ → Request
-request_of h body = record { phase = 0; client = h.client; line = h.line; verb = verb_view h.verb; body = body }
+abbrev pub call_of : Head → List ℕ → Call
+call_of h body = record { phase = 0; client = h.client; line = h.line; verb = verb_view h.verb; body = body }
 
 -- the outcome of a query for the first ten documents
 abbrev pub found_first_ten : List Document → Query → Outcome
 found_first_ten docs q = found (first_ten q) (answer docs (first_ten q))
 
 -- the reply shows this outcome
-pub record Shown (s : Fields) (o : Outcome) (r : Reply) : Type 0 where
-  pub text : r.text ≡ reply_text s o
+pub record Shown (c : Config) (o : Outcome) (r : Reply) : Type 0 where
+  pub text : r.text ≡ reply_text c.schema o
   pub code : r.code ≡ code_of o
   pub found : r.found ≡ found_of o
   pub docs : r.docs ≡ docs_of o
@@ -60,8 +60,3 @@ pub record HasRoom (n : ℕ) (st : Standing) : Type 0 where
   pub acquired : st.current.acquired + n < 2 ^ 32
   pub served : length st.served + n < 2 ^ 32
   pub docs : length st.docs + n < 2 ^ 32
-
--- there is room for n more lines, and the documents are kept by the schema's unique key
-pub record CanGoOn (s : Fields) (n : ℕ) (r : Runner) : Type 0 where
-  pub id : r.index.id ≡ s.key
-  pub room : HasRoom n (standing r)

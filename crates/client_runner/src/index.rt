@@ -2,16 +2,14 @@ ghost use Rattle.std.specs.Prelude.{◌≡◌, ◌<◌, ◌≤◌, ℕ, [], OnOk
 ghost use Rattle.std.specs.Arc.{arc_value};
 ghost use Rattle.search_model.specs.Live.{added, after};
 ghost use Rattle.std.specs.List.{All};
-ghost use Rattle.client_runner.specs.Kept.{HasSuccessorBelow, Stands, emptied, is_latest, is_seen, latest, seen};
+ghost use Rattle.client_runner.specs.IndexState.{HasSuccessorBelow, Stands, emptied, is_latest, is_seen, latest, seen};
 
 mod found;
 #[cfg(test)]
 mod tests;
-mod unique_key;
 
-use crate::index::unique_key::UniqueKey;
 use doc_model::Doc;
-use field_schema::{FieldNo, NoMemory};
+use field_schema::{NoMemory, Text};
 use std::alloc::Global;
 use std::collections::BTreeMap;
 use std::marker::Model;
@@ -24,29 +22,28 @@ struct Slot {
     successor: Option<usize>,
 }
 
-/// The documents that the updates so far leave, and those that the current searcher sees. Contracts see the field of
-/// the unique key, and both lists in index order.
+/// The documents that the updates so far leave, and those that the current searcher sees. Contracts see
+/// both lists in index order.
 ///
 /// Each document is added in a slot of its own, behind the others. It stays there when another takes its place, and
 /// a map leads from each unique key to the slot of the document that stands. A searcher sees the slots that were
 /// there when it was opened, as they stood then: those with a successor among them it passes over.
 #[derive(Drop)]
 pub struct Index {
-    id: FieldNo,
     slots: Vec<Slot>,
-    places: BTreeMap<UniqueKey, usize>,
+    places: BTreeMap<Text, usize>,
     opened: usize,
 }
 
 impl Model for Index {
     ghost use Rattle.std.specs.Prelude.{map, take};
-    ghost use Rattle.client_runner.specs.Kept.{Kept, documents, seen, latest, IsIndexed};
+    ghost use Rattle.client_runner.specs.IndexState.{IndexState, documents, seen, latest, IsIndexed};
 
-    ghost Value = { Kept };
+    ghost Value = { IndexState };
 
-    ghost view = { λ p. record { id = p.id; docs = documents (map latest p.slots.items); served = documents (take p.opened (map (seen p.opened) p.slots.items)) } };
+    ghost view = { λ p. record { docs = documents (map latest p.slots.items); served = documents (take p.opened (map (seen p.opened) p.slots.items)) } };
 
-    ghost invariant = { λ p. IsIndexed p.id p.slots.items p.places p.opened };
+    ghost invariant = { λ p. IsIndexed p.slots.items p.places p.opened };
 }
 
 // With no more slots than these, those of replaced documents are left alone.
@@ -72,14 +69,12 @@ impl Slot {
 }
 
 impl Index {
-    /// No document, of a schema whose unique key is the field `id`.
-    pub fn new(alloc: Global, id: FieldNo) -> Index
-        ensures id { result.id ≡ id }
+    /// No document.
+    pub fn new(alloc: Global) -> Index
         ensures docs { result.docs ≡ [] }
         ensures served { result.served ≡ [] }
     {
         Index {
-            id,
             slots: Vec::new(alloc),
             places: BTreeMap::new(alloc),
             opened: 0,
@@ -91,8 +86,7 @@ impl Index {
     /// It costs a search among the documents by their unique keys, whose number of comparisons grows as the
     /// logarithm of the documents'.
     pub fn add(&mut self, alloc: Global, doc: Doc) -> Result<(), NoMemory>
-        ensures id { self.new.id ≡ self.old.id }
-        ensures ok { OnOk result (self.new.docs ≡ after self.old.id self.old.docs (added doc)) }
+        ensures ok { OnOk result (self.new.docs ≡ after self.old.docs (added doc)) }
         ensures err { OnErr result (self.new.docs ≡ self.old.docs) }
         ensures served { self.new.served ≡ self.old.served }
     {
@@ -106,7 +100,6 @@ impl Index {
     /// the slots are no more than twice the documents, or some 1,000. Where memory is wanting, the pass waits for a
     /// later opening.
     pub fn open(&mut self, alloc: Global)
-        ensures id { self.new.id ≡ self.old.id }
         ensures docs { self.new.docs ≡ self.old.docs }
         ensures served { self.new.served ≡ self.old.docs }
     {
@@ -120,7 +113,6 @@ impl Index {
 
     // Has the current searcher see the documents as they stand.
     fn see_all(&mut self)
-        ensures id { self.new.id ≡ self.old.id }
         ensures docs { self.new.docs ≡ self.old.docs }
         ensures served { self.new.served ≡ self.old.docs }
     {
@@ -129,12 +121,11 @@ impl Index {
 
     // Adds a shared document, as `add` does.
     fn put(&mut self, alloc: Global, doc: Arc<Doc>) -> Result<(), NoMemory>
-        ensures id { self.new.id ≡ self.old.id }
-        ensures ok { OnOk result (self.new.docs ≡ after self.old.id self.old.docs (added (arc_value doc))) }
+        ensures ok { OnOk result (self.new.docs ≡ after self.old.docs (added (arc_value doc))) }
         ensures err { OnErr result (self.new.docs ≡ self.old.docs) }
         ensures served { self.new.served ≡ self.old.served }
     {
-        let key = UniqueKey::copy(alloc, doc.keys(self.id))?;
+        let key = doc.id().copy(alloc)?;
         let last = self.slots.len();
         self.slots.push(Slot {
             doc,
@@ -160,10 +151,9 @@ impl Index {
     // The same documents without the slots of replaced ones. It costs the number of slots times the logarithm of
     // that of documents.
     fn compacted(&self, alloc: Global) -> Result<Index, NoMemory>
-        ensures id { IfOk result (λ p. p.id ≡ self.now.id) }
         ensures docs { IfOk result (λ p. p.docs ≡ self.now.docs) }
     {
-        let mut compacted = Index::new(alloc, self.id);
+        let mut compacted = Index::new(alloc);
         for slot in &self.slots {
             if slot.is_latest() {
                 compacted.put(alloc, Arc::try_clone(&slot.doc)?)?;

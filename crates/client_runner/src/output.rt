@@ -2,7 +2,7 @@ ghost use Rattle.std.specs.Prelude.{◌≡◌, IfOk, OnOk, Some, string_bytes};
 ghost use Rattle.std.specs.List.{flat_map};
 ghost use Rattle.std.specs.Option.{option_map};
 ghost use Rattle.run_laws.specs.OutputText.{output_text as text_of_output};
-ghost use Rattle.client_runner.specs.Lines.{Grows, end_piece, from_piece, number_piece, optional_piece, request_line, searcher_line};
+ghost use Rattle.client_runner.specs.OutputPieces.{Grows, end_piece, from_piece, number_piece, optional_piece, request_line, searcher_line};
 ghost use Rattle.client_runner.specs.Outputs.{output_view};
 ghost use Rattle.client_runner.specs.Views.{request_view, searcher_view};
 

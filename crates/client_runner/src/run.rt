@@ -1,14 +1,14 @@
 ghost use Rattle.std.specs.Prelude.{◌≡◌, ◌+◌, ◌<◌, ◌≤◌, ◌^◌, IfOk, OnOk, length, vec_len};
 ghost use Rattle.run_laws.specs.Lawful.{Lawful};
-ghost use Rattle.run_laws.specs.Requests.{request_as};
+ghost use Rattle.run_laws.specs.Calls.{call_as};
 ghost use Rattle.client_runner.specs.Outputs.{output_view};
-ghost use Rattle.run_laws.specs.Reading.{commit_of};
+ghost use Rattle.run_laws.specs.CallReadings.{commit_of};
 ghost use Rattle.client_runner.specs.Serial.{commit_as, output_at, serve};
-ghost use Rattle.client_runner.specs.Standings.{CanGoOn, request_of, standing};
+ghost use Rattle.client_runner.specs.Standings.{HasRoom, call_of, standing};
 
 use crate::rows::{Output, RequestRows, SearcherList, Verb};
 use crate::runner::{Head, Runner};
-use field_schema::{NoMemory, Schema, Text};
+use field_schema::{NoMemory, Text};
 use rt_edge::Gate;
 use script_form::{Config, Line, Script, What};
 use std::alloc::Global;
@@ -18,26 +18,24 @@ impl Runner {
     fn commit(
         &mut self,
         alloc: Global,
-        schema: &Schema,
+        config: &Config,
         head: Head,
         body: &Text,
     ) -> Result<(), NoMemory>
-        requires { CanGoOn schema.now 1 self.old }
-        ensures id { self.new.index.id ≡ self.old.index.id }
-        ensures served { OnOk result (standing self.new ≡ commit_as schema.now (request_of head body.now) (standing self.old) (commit_of body.now)) }
+        requires { HasRoom 1 (standing self.old) }
+        ensures { OnOk result (standing self.new ≡ commit_as config.now (call_of head body.now) (standing self.old) (commit_of body.now)) }
     {
         if body.get().is_empty() {
-            self.open(alloc, schema, head)
+            self.open(alloc, config, head)
         } else {
-            self.refuse(alloc, schema, head, "NotBuilt")
+            self.refuse(alloc, config, head, "NotBuilt")
         }
     }
 
     /// Serves a line in its turn.
-    fn step(&mut self, alloc: Global, schema: &Schema, line: &Line) -> Result<(), NoMemory>
-        requires { CanGoOn schema.now 1 self.old }
-        ensures id { self.new.index.id ≡ self.old.index.id }
-        ensures served { OnOk result (standing self.new ≡ serve schema.now (standing self.old) (request_as 0 line.now.number line.now.what)) }
+    fn step(&mut self, alloc: Global, config: &Config, line: &Line) -> Result<(), NoMemory>
+        requires { HasRoom 1 (standing self.old) }
+        ensures { OnOk result (standing self.new ≡ serve config.now (standing self.old) (call_as 0 line.now.number line.now.what)) }
     {
         match &line.what {
             What::Add { client, body } => {
@@ -46,7 +44,7 @@ impl Runner {
                     line: line.number,
                     verb: Verb::Add,
                 };
-                self.add(alloc, schema, head, body.get())
+                self.add(alloc, config, head, body.get())
             }
             What::Delete { client, body: _ } => {
                 let head = Head {
@@ -54,7 +52,7 @@ impl Runner {
                     line: line.number,
                     verb: Verb::Delete,
                 };
-                self.refuse(alloc, schema, head, "NotBuilt")
+                self.refuse(alloc, config, head, "NotBuilt")
             }
             What::Query { client, body } => {
                 let head = Head {
@@ -62,7 +60,7 @@ impl Runner {
                     line: line.number,
                     verb: Verb::Query,
                 };
-                self.query(alloc, schema, head, body.get())
+                self.query(alloc, config, head, body.get())
             }
             What::Commit { client, body } => {
                 let head = Head {
@@ -70,7 +68,7 @@ impl Runner {
                     line: line.number,
                     verb: Verb::Commit,
                 };
-                self.commit(alloc, schema, head, body)
+                self.commit(alloc, config, head, body)
             }
             What::PhaseEnd | What::Nothing => Ok(()),
         }
@@ -112,9 +110,9 @@ pub fn run_script<G: Gate>(
     ensures lawful { IfOk result (λ o. Lawful config.now script.now (output_view o)) }
 {
     let _ = gate;
-    let mut runner = Runner::new(alloc, &config.schema);
+    let mut runner = Runner::new(alloc);
     for line in script.get() {
-        runner.step(alloc, &config.schema, line)?;
+        runner.step(alloc, config, line)?;
     }
     runner.finish()
 }

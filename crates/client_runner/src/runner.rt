@@ -7,9 +7,9 @@ ghost use Rattle.query_tree.specs.declared.query.Query.{Term};
 ghost use Rattle.search_model.specs.Live.{added};
 ghost use Rattle.search_model.specs.Messages.{doc_message};
 ghost use Rattle.search_model.specs.Reply.{accepted, refused};
-ghost use Rattle.run_laws.specs.Reading.{query_of};
+ghost use Rattle.run_laws.specs.CallReadings.{query_of};
 ghost use Rattle.client_runner.specs.Serial.{open_next, query_as, refuse, start, told_too, update};
-ghost use Rattle.client_runner.specs.Standings.{CanGoOn, Shown, found_first_ten, request_of, shown_row, standing};
+ghost use Rattle.client_runner.specs.Standings.{HasRoom, Shown, found_first_ten, call_of, shown_row, standing};
 
 use crate::index::Index;
 use crate::reply::{
@@ -17,8 +17,8 @@ use crate::reply::{
 };
 use crate::rows::{RequestRow, SearcherRow, Verb};
 use doc_model::Doc;
-use field_schema::{FieldNo, NoMemory, Schema, Text};
-use script_form::query_term;
+use field_schema::{FieldNo, NoMemory, Text};
+use script_form::{Config, query_term};
 use std::alloc::Global;
 
 /// A request as its line names it.
@@ -50,12 +50,11 @@ pub(crate) struct Runner {
 
 impl Runner {
     /// Before the first line.
-    pub(crate) fn new(alloc: Global, schema: &Schema) -> Runner
-        ensures start { standing result ≡ start }
-        ensures id { result.index.id ≡ schema.now.key }
+    pub(crate) fn new(alloc: Global) -> Runner
+        ensures { standing result ≡ start }
     {
         Runner {
-            index: Index::new(alloc, schema.key_field()),
+            index: Index::new(alloc),
             place: 2,
             rows: Vec::new(alloc),
             earlier: Vec::new(alloc),
@@ -79,8 +78,7 @@ impl Runner {
         ticket: Option<u32>,
         reply: Reply,
     ) -> Result<(), NoMemory>
-        ensures id { self.new.index.id ≡ self.old.index.id }
-        ensures served { OnOk result (standing self.new ≡ told_too (standing self.old) (shown_row head place generation ticket reply)) }
+        ensures { OnOk result (standing self.new ≡ told_too (standing self.old) (shown_row head place generation ticket reply)) }
     {
         self.rows.push(RequestRow {
             client: head.client,
@@ -99,8 +97,8 @@ impl Runner {
 }
 
 /// The reply to an accepted update or commit.
-fn accepted_reply(alloc: Global, schema: &Schema) -> Result<Reply, NoMemory>
-    ensures { IfOk result (Shown schema.now accepted) }
+fn accepted_reply(alloc: Global, config: &Config) -> Result<Reply, NoMemory>
+    ensures { IfOk result (Shown config.now accepted) }
 {
     let value = accepted_value(alloc)?;
     let text = text_of(alloc, &value)?;
@@ -113,8 +111,8 @@ fn accepted_reply(alloc: Global, schema: &Schema) -> Result<Reply, NoMemory>
 }
 
 /// The reply to a refused request.
-fn refused_reply(alloc: Global, schema: &Schema, message: &str) -> Result<Reply, NoMemory>
-    ensures { IfOk result (Shown schema.now (refused message.now)) }
+fn refused_reply(alloc: Global, config: &Config, message: &str) -> Result<Reply, NoMemory>
+    ensures { IfOk result (Shown config.now (refused message.now)) }
 {
     let value = refused_value(alloc, 400, message)?;
     let text = text_of(alloc, &value)?;
@@ -129,16 +127,16 @@ fn refused_reply(alloc: Global, schema: &Schema, message: &str) -> Result<Reply,
 /// The reply of a query for a word in a field, on what the current searcher sees: the first ten documents that have it.
 fn found_reply(
     alloc: Global,
-    schema: &Schema,
+    config: &Config,
     index: &Index,
     field: FieldNo,
     word: &str,
 ) -> Result<Reply, NoMemory>
     requires { length index.now.served < 2 ^ 32 }
-    ensures { IfOk result (Shown schema.now (found_first_ten index.now.served (Term field (Key.Str word.now)))) }
+    ensures { IfOk result (Shown config.now (found_first_ten index.now.served (Term field (Key.Str word.now)))) }
 {
     let (first, found) = index.first_matches(alloc, field, word, 10)?;
-    let docs = docs_value(alloc, schema, &first)?;
+    let docs = docs_value(alloc, &config.schema, &first)?;
     let value = found_value(alloc, docs, found as u32, 0)?;
     let text = text_of(alloc, &value)?;
     Ok(Reply {
@@ -154,14 +152,13 @@ impl Runner {
     pub(crate) fn refuse(
         &mut self,
         alloc: Global,
-        schema: &Schema,
+        config: &Config,
         head: Head,
         message: &str,
     ) -> Result<(), NoMemory>
-        ensures id { self.new.index.id ≡ self.old.index.id }
-        ensures served { (body : List ℕ) → OnOk result (standing self.new ≡ refuse schema.now (request_of head body) (standing self.old) message.now) }
+        ensures { (body : List ℕ) → OnOk result (standing self.new ≡ refuse config.now (call_of head body) (standing self.old) message.now) }
     {
-        let reply = refused_reply(alloc, schema, message)?;
+        let reply = refused_reply(alloc, config, message)?;
         self.tell(head, None, None, None, reply)
     }
 
@@ -169,19 +166,18 @@ impl Runner {
     pub(crate) fn add(
         &mut self,
         alloc: Global,
-        schema: &Schema,
+        config: &Config,
         head: Head,
         body: &str,
     ) -> Result<(), NoMemory>
-        requires { CanGoOn schema.now 1 self.old }
-        ensures id { self.new.index.id ≡ self.old.index.id }
-        ensures served { OnOk result (standing self.new ≡ update schema.now (request_of head body.now) (standing self.old) (result_map_both added doc_message (doc_of schema.now body.now))) }
+        requires { HasRoom 1 (standing self.old) }
+        ensures { OnOk result (standing self.new ≡ update config.now (call_of head body.now) (standing self.old) (result_map_both added doc_message (doc_of config.now.schema body.now))) }
     {
-        match Doc::read(alloc, schema, body) {
-            Ok(doc) => self.accept(alloc, schema, head, doc),
+        match Doc::read(alloc, &config.schema, body) {
+            Ok(doc) => self.accept(alloc, config, head, doc),
             Err(fault) => {
                 let message = doc_message_text(alloc, &fault)?;
-                self.refuse(alloc, schema, head, message.get())
+                self.refuse(alloc, config, head, message.get())
             }
         }
     }
@@ -190,15 +186,14 @@ impl Runner {
     fn accept(
         &mut self,
         alloc: Global,
-        schema: &Schema,
+        config: &Config,
         head: Head,
         doc: Doc,
     ) -> Result<(), NoMemory>
-        requires { CanGoOn schema.now 1 self.old }
-        ensures id { self.new.index.id ≡ self.old.index.id }
-        ensures served { (body : List ℕ) → OnOk result (standing self.new ≡ update schema.now (request_of head body) (standing self.old) (Ok (added doc))) }
+        requires { HasRoom 1 (standing self.old) }
+        ensures { (body : List ℕ) → OnOk result (standing self.new ≡ update config.now (call_of head body) (standing self.old) (Ok (added doc))) }
     {
-        let reply = accepted_reply(alloc, schema)?;
+        let reply = accepted_reply(alloc, config)?;
         self.index.add(alloc, doc)?;
         let place = self.place;
         self.place += 1;
@@ -209,14 +204,13 @@ impl Runner {
     pub(crate) fn open(
         &mut self,
         alloc: Global,
-        schema: &Schema,
+        config: &Config,
         head: Head,
     ) -> Result<(), NoMemory>
-        requires { CanGoOn schema.now 1 self.old }
-        ensures id { self.new.index.id ≡ self.old.index.id }
-        ensures served { (body : List ℕ) → OnOk result (standing self.new ≡ open_next schema.now (request_of head body) (standing self.old)) }
+        requires { HasRoom 1 (standing self.old) }
+        ensures { (body : List ℕ) → OnOk result (standing self.new ≡ open_next config.now (call_of head body) (standing self.old)) }
     {
-        let reply = accepted_reply(alloc, schema)?;
+        let reply = accepted_reply(alloc, config)?;
         self.index.open(alloc);
         let opened = self.place;
         let ticket = self.current.acquired;
@@ -240,18 +234,17 @@ impl Runner {
     pub(crate) fn query(
         &mut self,
         alloc: Global,
-        schema: &Schema,
+        config: &Config,
         head: Head,
         body: &str,
     ) -> Result<(), NoMemory>
-        requires { CanGoOn schema.now 1 self.old }
-        ensures id { self.new.index.id ≡ self.old.index.id }
-        ensures served { OnOk result (standing self.new ≡ query_as schema.now (request_of head body.now) (standing self.old) (query_of schema.now body.now)) }
+        requires { HasRoom 1 (standing self.old) }
+        ensures { OnOk result (standing self.new ≡ query_as config.now (call_of head body.now) (standing self.old) (query_of config.now body.now)) }
     {
-        let Some((field, word)) = query_term(schema, body) else {
-            return self.refuse(alloc, schema, head, "NotBuilt");
+        let Some((field, word)) = query_term(&config.schema, body) else {
+            return self.refuse(alloc, config, head, "NotBuilt");
         };
-        let reply = found_reply(alloc, schema, &self.index, field, word)?;
+        let reply = found_reply(alloc, config, &self.index, field, word)?;
         let ticket = self.current.acquired;
         self.current.acquired += 1;
         let generation = self.current.generation;

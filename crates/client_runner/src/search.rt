@@ -18,16 +18,16 @@ fn is_word(key: &Key, word: &str) -> bool
     }
 }
 
-/// Whether one of the keys is this word.
-fn have_word(keys: &[Key], word: &str) -> bool
-    ensures { result ≡ list_any (key_eq (Key.Str word.now)) keys.now }
+/// Whether one of the values is this word.
+fn have_word(values: &[Key], word: &str) -> bool
+    ensures { result ≡ list_any (key_eq (Key.Str word.now)) values.now }
 {
-    keys.iter().any(|key| is_word(key, word))
+    values.iter().any(|key| is_word(key, word))
 }
 
 /// Whether a document has this word as a value of a string field.
 pub(crate) fn has_word(doc: &Doc, field: FieldNo, word: &str) -> bool
-    ensures { result ≡ top doc.now (Term field (Key.Str word.now)) }
+    ensures { result ≡ top doc.now.values (Term field (Key.Str word.now)) }
 {
-    have_word(doc.keys(field), word)
+    have_word(doc.values(field), word)
 }

@@ -8,12 +8,12 @@ use Rattle.std.specs.Prelude.{slice_index}
 use Rattle.serde_json.proofs.OnLiterals.{serde_json_on_literals}
 use Rattle.search_model.specs.Answer.{answer}
 use Rattle.search_model.specs.Reply.{accepted, too_many, no_memory, found, reply_text}
-use Rattle.script_form.specs.Requests.{asked_of}
+use Rattle.script_form.specs.BodyForms.{asked_of}
 use Rattle.run_laws.specs.Rows.{add, query, commit, RequestRow}
 use Rattle.run_laws.specs.Places.{view_of, warming}
 use Rattle.run_laws.specs.Lawful.{Shows}
-use Rattle.run_laws.specs.Trials.{Law, one_row_each, one_history, clients_orders, answers, greatest_serves, tickets, warmings, Keeps, BreaksAlone, told_of, one_warming, two_warming, two_fields, asked_x, served, row, document_a, document_b, add_commit_query, add_has_no_place, adds_in_phases, adds_of_two, another_warming_told, bad_add, bad_add_is_accepted, client_did_not_wait, commit_then_add, commit_then_phase, first_ends_first, generation_is_skipped, one_add, one_commit, one_query, opened_by_nobody, opened_nothing, openings_descend, phase_did_not_wait, phases_are_swapped, place_is_shared, placed_without_memory, places_are_swapped, queries_and_commit, refused_without_cause, registered_too_late, reply_of_another_view, reply_with_another_document, row_is_missing, served_backwards, served_from_before, served_from_none, superseded_by_none, ticket_is_skipped, tickets_descend, two_adds, two_commits, two_queries, warmed_from_itself, warmed_from_none, warms_too_many}
-use Rattle.run_laws.proofs.Worked.{shows, tells, tells_added, tells_committed, tells_served, add_answered, found_rows, found_history, found_orders, found_answers, found_serves, found_warmings, finds_one, one_answer}
+use Rattle.run_laws.specs.Trials.{Law, one_row_each, one_history, clients_orders, answers, greatest_serves, tickets, warmings, Keeps, BreaksAlone, told_of, one_warming, two_warming, two_fields, asked_x, served, row, document_a, document_b, add_commit_query, add_has_no_place, adds_in_phases, adds_of_two, another_warming_told, bad_add, bad_add_is_accepted, client_did_not_wait, commit_then_add, commit_then_phase, first_ends_first, generation_is_skipped, one_add, one_commit, one_query, opened_by_nobody, opened_nothing, openings_descend, phase_did_not_wait, phases_are_swapped, place_is_shared, placed_without_memory, places_are_swapped, queries_and_commit, query_then_commit, commits_in_turn, served_from_after, ticket_past_acquired, warmed_from_before, refused_without_cause, registered_too_late, reply_of_another_view, reply_with_another_document, row_is_missing, served_backwards, served_from_before, served_from_none, superseded_by_none, ticket_is_skipped, tickets_descend, two_adds, two_commits, two_queries, warmed_from_itself, warmed_from_none, warms_too_many}
+use Rattle.run_laws.proofs.Worked.{shows, shows_two, tells, tells_added, tells_committed, tells_served, add_answered, found_rows, found_history, found_orders, found_answers, found_serves, found_warmings, finds_one, one_answer}
 
 row_is_missing_others : (other : Law) → other ≢ one_row_each → Keeps one_warming add_commit_query row_is_missing other
 row_is_missing_others one_row_each differs = absurd (differs refl)
@@ -91,10 +91,10 @@ pub opened_by_nobody_alone : BreaksAlone one_warming one_add opened_by_nobody on
 opened_by_nobody_alone = record { breaks = opened_by_nobody_breaks; keeps_others = opened_by_nobody_others }
 
 openings_descend_others : (other : Law) → other ≢ one_history → Keeps two_warming two_commits openings_descend other
-openings_descend_others one_row_each differs = search (rules, shows)
+openings_descend_others one_row_each differs = search (rules, shows_two)
 openings_descend_others one_history differs = absurd (differs refl)
 openings_descend_others clients_orders differs = search rules
-openings_descend_others answers differs = search (rules, shows, add_answered)
+openings_descend_others answers differs = search (rules, shows_two, add_answered)
 openings_descend_others greatest_serves differs = search rules
 openings_descend_others tickets differs = search rules
 openings_descend_others warmings differs = (refl, ((refl, (3, omega arith, omega arith, refl)), ((refl, (2, omega arith, omega arith, refl)), tt)))
@@ -227,10 +227,10 @@ pub superseded_by_none_alone : BreaksAlone one_warming one_commit superseded_by_
 superseded_by_none_alone = record { breaks = superseded_by_none_breaks; keeps_others = superseded_by_none_others }
 
 registered_too_late_others : (other : Law) → other ≢ greatest_serves → Keeps two_warming two_commits registered_too_late other
-registered_too_late_others one_row_each differs = search (rules, shows)
+registered_too_late_others one_row_each differs = search (rules, shows_two)
 registered_too_late_others one_history differs = search rules
 registered_too_late_others clients_orders differs = search rules
-registered_too_late_others answers differs = search (rules, shows, add_answered)
+registered_too_late_others answers differs = search (rules, shows_two, add_answered)
 registered_too_late_others greatest_serves differs = absurd (differs refl)
 registered_too_late_others tickets differs = search rules
 registered_too_late_others warmings differs = (refl, ((refl, (2, omega arith, omega arith, refl)), ((refl, (3, omega arith, omega arith, refl)), tt)))
@@ -288,9 +288,9 @@ refusals_differ e =
     omega (arith, figures)
 
 -- the second searcher is warming at place 3
-two_is_warming : (p : ℕ) → Some 3 ≡ Some p → Shows two_fields (row 2 2 commit (Some 3) None None (too_many (1 ∷ []))) (too_many (warming p another_warming_told.searchers)) → ⊥
+two_is_warming : (p : ℕ) → Some 3 ≡ Some p → Shows one_warming (row 2 2 commit (Some 3) None None (too_many (1 ∷ []))) (too_many (warming p another_warming_told.searchers)) → ⊥
 two_is_warming p e s =
-    let shown = subst (λ (n : ℕ). Shows two_fields (row 2 2 commit (Some 3) None None (too_many (1 ∷ []))) (too_many (warming n another_warming_told.searchers))) (ap (λ (o : Option ℕ). option_map_or (λ n. n) o 3) (sym e)) s in
+    let shown = subst (λ (n : ℕ). Shows one_warming (row 2 2 commit (Some 3) None None (too_many (1 ∷ []))) (too_many (warming n another_warming_told.searchers))) (ap (λ (o : Option ℕ). option_map_or (λ n. n) o 3) (sym e)) s in
     refusals_differ shown.reply
 
 another_warming_told_breaks : Keeps one_warming two_commits another_warming_told answers → ⊥
@@ -342,10 +342,10 @@ reply_of_another_view_others tickets differs = search rules
 reply_of_another_view_others warmings differs = (refl, ((refl, (3, omega arith, omega arith, refl)), tt))
 
 -- the second searcher sees a document, and the reply shows none
-one_is_found : (g : ℕ) → Some 2 ≡ Some g → Shows two_fields (served 3 2 0 []) (found asked_x (answer (view_of two_fields (told_of add_commit_query reply_of_another_view) reply_of_another_view g) asked_x)) → ⊥
+one_is_found : (g : ℕ) → Some 2 ≡ Some g → Shows one_warming (served 3 2 0 []) (found asked_x (answer (view_of one_warming (told_of add_commit_query reply_of_another_view) reply_of_another_view g) asked_x)) → ⊥
 unfolding serde_json_on_literals
 one_is_found g e s =
-    let shown = subst (λ (n : ℕ). Shows two_fields (served 3 2 0 []) (found asked_x (answer (view_of two_fields (told_of add_commit_query reply_of_another_view) reply_of_another_view n) asked_x))) (ap (λ (o : Option ℕ). option_map_or (λ n. n) o 2) (sym e)) s in
+    let shown = subst (λ (n : ℕ). Shows one_warming (served 3 2 0 []) (found asked_x (answer (view_of one_warming (told_of add_commit_query reply_of_another_view) reply_of_another_view n) asked_x))) (ap (λ (o : Option ℕ). option_map_or (λ n. n) o 2) (sym e)) s in
     let none : ◌≡◌ {A = ℕ} 0 1 = shown.found ∙ finds_one in
     omega (arith, none)
 
@@ -379,10 +379,10 @@ replies_differ e =
 abbrev told_b : RequestRow
 told_b = row 1 3 query None (Some 2) (Some 0) (found asked_x (record { found = 1; docs = document_b ∷ [] }))
 
-a_is_found : (g : ℕ) → Some 2 ≡ Some g → Shows two_fields told_b (found asked_x (answer (view_of two_fields (told_of add_commit_query reply_with_another_document) reply_with_another_document g) asked_x)) → ⊥
+a_is_found : (g : ℕ) → Some 2 ≡ Some g → Shows one_warming told_b (found asked_x (answer (view_of one_warming (told_of add_commit_query reply_with_another_document) reply_with_another_document g) asked_x)) → ⊥
 unfolding serde_json_on_literals
 a_is_found g e s =
-    let shown = subst (λ (n : ℕ). Shows two_fields told_b (found asked_x (answer (view_of two_fields (told_of add_commit_query reply_with_another_document) reply_with_another_document n) asked_x))) (ap (λ (o : Option ℕ). option_map_or (λ n. n) o 2) (sym e)) s in
+    let shown = subst (λ (n : ℕ). Shows one_warming told_b (found asked_x (answer (view_of one_warming (told_of add_commit_query reply_with_another_document) reply_with_another_document n) asked_x))) (ap (λ (o : Option ℕ). option_map_or (λ n. n) o 2) (sym e)) s in
     replies_differ (shown.reply ∙ ap (λ a. reply_text two_fields (found asked_x a)) one_answer)
 
 reply_with_another_document_breaks : Keeps one_warming add_commit_query reply_with_another_document answers → ⊥
@@ -484,3 +484,49 @@ warmed_from_itself_breaks h = grind (arith, common_steps)
 
 pub warmed_from_itself_alone : BreaksAlone one_warming add_commit_query warmed_from_itself warmings
 warmed_from_itself_alone = record { breaks = warmed_from_itself_breaks; keeps_others = warmed_from_itself_others }
+
+served_from_after_others : (other : Law) → other ≢ answers → Keeps one_warming query_then_commit served_from_after other
+served_from_after_others one_row_each differs = record { rows = refl; numbers = (tells_served 1 2 0 [], (tells_committed 1 2 2 2, tt)); generations = refl }
+served_from_after_others one_history differs = search rules
+served_from_after_others clients_orders differs = search rules
+served_from_after_others answers differs = absurd (differs refl)
+served_from_after_others greatest_serves differs = search rules
+served_from_after_others tickets differs = search rules
+served_from_after_others warmings differs = (refl, ((refl, (2, omega arith, omega arith, refl)), tt))
+
+served_from_after_breaks : Keeps one_warming query_then_commit served_from_after answers → ⊥
+served_from_after_breaks h = grind (arith, common_steps)
+
+pub served_from_after_alone : BreaksAlone one_warming query_then_commit served_from_after answers
+served_from_after_alone = record { breaks = served_from_after_breaks; keeps_others = served_from_after_others }
+
+ticket_past_acquired_others : (other : Law) → other ≢ tickets → Keeps one_warming one_query ticket_past_acquired other
+unfolding asked_of
+ticket_past_acquired_others one_row_each differs = record { rows = refl; numbers = (tells_served 1 1 0 [], tt); generations = refl }
+ticket_past_acquired_others one_history differs = search rules
+ticket_past_acquired_others clients_orders differs = search rules
+ticket_past_acquired_others answers differs = (inl (1, 0, record { place = refl; generation = refl; ticket = refl; current = (1, omega arith, omega arith, refl); rising = tt; shown = inl (shows 1 1 query None (Some 1) (Some 0) (found asked_x (answer [] asked_x))) }), tt)
+ticket_past_acquired_others greatest_serves differs = search rules
+ticket_past_acquired_others tickets differs = absurd (differs refl)
+ticket_past_acquired_others warmings differs = search rules
+
+ticket_past_acquired_breaks : Keeps one_warming one_query ticket_past_acquired tickets → ⊥
+ticket_past_acquired_breaks h = grind (arith, common_steps)
+
+pub ticket_past_acquired_alone : BreaksAlone one_warming one_query ticket_past_acquired tickets
+ticket_past_acquired_alone = record { breaks = ticket_past_acquired_breaks; keeps_others = ticket_past_acquired_others }
+
+warmed_from_before_others : (other : Law) → other ≢ warmings → Keeps one_warming commits_in_turn warmed_from_before other
+warmed_from_before_others one_row_each differs = record { rows = refl; numbers = (tells_committed 1 1 2 2, (tells_committed 1 2 4 3, tt)); generations = refl }
+warmed_from_before_others one_history differs = search rules
+warmed_from_before_others clients_orders differs = search rules
+warmed_from_before_others answers differs = search (rules, shows, add_answered)
+warmed_from_before_others greatest_serves differs = search rules
+warmed_from_before_others tickets differs = search rules
+warmed_from_before_others warmings differs = absurd (differs refl)
+
+warmed_from_before_breaks : Keeps one_warming commits_in_turn warmed_from_before warmings → ⊥
+warmed_from_before_breaks h = grind (arith, common_steps)
+
+pub warmed_from_before_alone : BreaksAlone one_warming commits_in_turn warmed_from_before warmings
+warmed_from_before_alone = record { breaks = warmed_from_before_breaks; keeps_others = warmed_from_before_others }

@@ -8,34 +8,37 @@ use Rattle.query_tree.specs.Matches.{top}
 use Rattle.query_tree.proofs.Matching.{top_Term}
 use Rattle.search_model.specs.Reply.{Outcome, found, accepted, found_of}
 use Rattle.search_model.specs.Answer.{Answer, answer}
-use Rattle.script_form.specs.Requests.{asked_of}
+use Rattle.script_form.specs.BodyForms.{asked_of}
 use Rattle.script_form.specs.declared.config.Config.{Config}
 use Rattle.script_form.specs.declared.script.Line.{Line}
 use Rattle.run_laws.specs.Rows.{Verb, add, query, commit, Output}
-use Rattle.run_laws.specs.Reading.{update_of}
+use Rattle.run_laws.specs.CallReadings.{update_of}
 use Rattle.run_laws.specs.Lawful.{Lawful, Shows, UpdateIsAnswered}
 use Rattle.run_laws.specs.OutputText.{output_text}
-use Rattle.run_laws.specs.Trials.{Law, one_row_each, one_history, clients_orders, answers, greatest_serves, tickets, warmings, Keeps, one_warming, two_fields, add_a, document_a, asked_x, add_commit_query, row, added_at, committed_at, served, found_once, worked, worked_text}
+use Rattle.run_laws.specs.Trials.{Law, one_row_each, one_history, clients_orders, answers, greatest_serves, tickets, warmings, Keeps, one_warming, two_warming, add_a, document_a, asked_x, add_commit_query, row, added_at, committed_at, served, found_once, worked, worked_text}
 
 -- the numbers of a trial's row are those of its outcome
-pub shows : (client number : ℕ) (verb : Verb) (place generation ticket : Option ℕ) (o : Outcome) → Shows two_fields (row client number verb place generation ticket o) o
+pub shows : (client number : ℕ) (verb : Verb) (place generation ticket : Option ℕ) (o : Outcome) → Shows one_warming (row client number verb place generation ticket o) o
 shows client number verb place generation ticket o = record { reply = refl; code = refl; found = refl; docs = refl }
 
+pub shows_two : (client number : ℕ) (verb : Verb) (place generation ticket : Option ℕ) (o : Outcome) → Shows two_warming (row client number verb place generation ticket o) o
+shows_two client number verb place generation ticket o = record { reply = refl; code = refl; found = refl; docs = refl }
+
 -- and so they are those of some outcome
-pub tells : (client number : ℕ) (verb : Verb) (place generation ticket : Option ℕ) (o : Outcome) → (outcome : Outcome) × Shows two_fields (row client number verb place generation ticket o) outcome
+pub tells : (client number : ℕ) (verb : Verb) (place generation ticket : Option ℕ) (o : Outcome) → (outcome : Outcome) × Shows one_warming (row client number verb place generation ticket o) outcome
 tells client number verb place generation ticket o = (o, shows client number verb place generation ticket o)
 
-pub tells_added : (client number place : ℕ) → (outcome : Outcome) × Shows two_fields (added_at client number place) outcome
+pub tells_added : (client number place : ℕ) → (outcome : Outcome) × Shows one_warming (added_at client number place) outcome
 tells_added client number place = tells client number add (Some place) None None accepted
 
-pub tells_committed : (client number place generation : ℕ) → (outcome : Outcome) × Shows two_fields (committed_at client number place generation) outcome
+pub tells_committed : (client number place generation : ℕ) → (outcome : Outcome) × Shows one_warming (committed_at client number place generation) outcome
 tells_committed client number place generation = tells client number commit (Some place) (Some generation) None accepted
 
-pub tells_served : (number generation ticket : ℕ) (view : List Document) → (outcome : Outcome) × Shows two_fields (served number generation ticket view) outcome
+pub tells_served : (number generation ticket : ℕ) (view : List Document) → (outcome : Outcome) × Shows one_warming (served number generation ticket view) outcome
 tells_served number generation ticket view = tells 1 number query None (Some generation) (Some ticket) (found asked_x (answer view asked_x))
 
 -- an add of the document is answered, wherever it is placed
-pub add_answered : (phase client number place : ℕ) → UpdateIsAnswered two_fields (added_at client number place) (update_of two_fields (record { phase = phase; client = client; line = number; verb = add; body = add_a }))
+pub add_answered : (phase client number place : ℕ) → UpdateIsAnswered one_warming (added_at client number place) (update_of one_warming (record { phase = phase; client = client; line = number; verb = add; body = add_a }))
 unfolding serde_json_on_literals
 add_answered phase client number place = inl (record { place = refl; generation = refl; ticket = refl; shown = shows client number add (Some place) None None accepted })
 
@@ -83,8 +86,8 @@ found_warmings acquired acquired_then pin ticket = (refl, ((refl, (3, omega arit
 
 -- ---- what the query finds
 
-x_matches : top document_a asked_x.query ≡ true
-x_matches = top_Term document_a 1 (Str (codes "x"))
+x_matches : top document_a.values asked_x.query ≡ true
+x_matches = top_Term document_a.values 1 (Str (codes "x"))
 
 -- the query finds the document
 pub finds_one : found_of (found asked_x (answer (document_a ∷ []) asked_x)) ≡ 1

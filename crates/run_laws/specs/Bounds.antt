@@ -3,26 +3,22 @@ use Rattle.std.specs.Prelude.{ℕ, List, [], ◌++◌, Bool, true, false, ◌||�
 use Rattle.std.specs.List.{flat_map, filter_map}
 use Rattle.std.specs.Option.{option_to_list, option_and_then}
 use Rattle.std.specs.Result.{result_ok}
-use Rattle.run_laws.specs.Rows.{Verb, add, delete, query, commit, SearcherRow}
-use Rattle.run_laws.specs.Requests.{Told}
-use Rattle.run_laws.specs.Reading.{commit_of, CommitForm}
+use Rattle.run_laws.specs.Rows.{Verb, query, commit, SearcherRow}
+use Rattle.run_laws.specs.Calls.{Told}
+use Rattle.run_laws.specs.CallReadings.{commit_of, CommitForm}
 use Rattle.run_laws.specs.Places.{ended_of}
 
 abbrev pub is_commit : Verb → Bool
-is_commit add = false
-is_commit delete = false
-is_commit query = false
 is_commit commit = true
+is_commit _ = false
 
 abbrev pub is_query : Verb → Bool
-is_query add = false
-is_query delete = false
 is_query query = true
-is_query commit = false
+is_query _ = false
 
 -- the generation that a commit's row opened
 abbrev pub opened_by : Told → Option ℕ
-opened_by t = if is_commit t.asked.verb then t.row.generation else None
+opened_by t = if is_commit t.call.verb then t.row.generation else None
 
 -- the end of the searcher that it opened
 abbrev pub end_opened_by : List SearcherRow → Told → Option ℕ
@@ -30,7 +26,7 @@ end_opened_by ss t = option_and_then (λ g. ended_of g ss) (opened_by t)
 
 -- a commit for whose searcher its client waited
 abbrev pub waits : Told → Bool
-waits t = is_waiting (result_ok (commit_of t.asked.body))
+waits t = is_waiting (result_ok (commit_of t.call.body))
   where
     is_waiting : Option CommitForm → Bool
     is_waiting None = false
@@ -39,12 +35,12 @@ waits t = is_waiting (result_ok (commit_of t.asked.body))
 -- the places that an earlier request sets below a later one's: its own, and its searcher's end where that was waited for
 abbrev pub sets_below : List SearcherRow → Told → Told → List ℕ
 sets_below ss t e =
-    if nat_lt e.asked.phase t.asked.phase then option_to_list e.row.place ++ option_to_list (end_opened_by ss e) else
-    (if e.asked.client == t.asked.client then option_to_list e.row.place ++ (if waits e then option_to_list (end_opened_by ss e) else []) else [])
+    if nat_lt e.call.phase t.call.phase then option_to_list e.row.place ++ option_to_list (end_opened_by ss e) else
+    (if e.call.client == t.call.client then option_to_list e.row.place ++ (if waits e then option_to_list (end_opened_by ss e) else []) else [])
 
 -- the place that a later request sets above an earlier one's
 abbrev pub sets_above : Told → Told → Option ℕ
-sets_above t l = if nat_lt t.asked.phase l.asked.phase || (l.asked.client == t.asked.client) then l.row.place else None
+sets_above t l = if nat_lt t.call.phase l.call.phase || (l.call.client == t.call.client) then l.row.place else None
 
 -- the greatest place that lies below the request
 abbrev pub low : List SearcherRow → List Told → Told → ℕ

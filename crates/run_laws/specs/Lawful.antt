@@ -1,48 +1,47 @@
 -- When the rows of an output are lawful for a configuration and a script.
 use Rattle.std.specs.Prelude.{◌≡◌, ◌⊎◌, ℕ, ◌-◌, ◌<◌, ◌≤◌, List, [], ◌∷◌, ◌++◌, length, map, drop, count_by, Bool, true, false, ◌&&◌, ◌==◌, nat_le, if◌then◌else◌, Option, Some, None, IsSome, IfSome, Result, Ok, Err}
-use Rattle.std.specs.List.{filter_map, AllByRecursion}
+use Rattle.std.specs.List.{filter_map, AllByRecursion, range_with_len}
 use Rattle.std.specs.Option.{option_and_then, option_map}
-use Rattle.field_schema.specs.Schema.{Fields}
 use Rattle.search_model.specs.Answer.{Asked, answer}
 use Rattle.search_model.specs.Reply.{Outcome, found, accepted, refused, too_many, no_memory, reply_text, code_of, found_of, docs_of}
 use Rattle.script_form.specs.declared.config.Config.{Config}
 use Rattle.script_form.specs.declared.script.Line.{Line}
 use Rattle.run_laws.specs.Rows.{Verb, add, delete, query, commit, RequestRow, SearcherRow, Output}
-use Rattle.run_laws.specs.Requests.{Request, Told, requests_of, tell, Each}
-use Rattle.run_laws.specs.Reading.{update_of, commit_of, query_of, CommitForm}
-use Rattle.run_laws.specs.Places.{count_up, is_some_of, places, place_count, opened_of, current_at, warming, view_of}
+use Rattle.run_laws.specs.Calls.{Call, Told, calls_of, tell, Each}
+use Rattle.run_laws.specs.CallReadings.{update_of, commit_of, query_of, CommitForm}
+use Rattle.run_laws.specs.Places.{is_some_of, places, place_count, opened_of, current_at, warming, view_of}
 use Rattle.run_laws.specs.Bounds.{is_commit, is_query, low, high}
 
 -- the row shows this outcome: its reply, and the numbers in it
-pub record Shows (s : Fields) (row : RequestRow) (o : Outcome) : Type 0 where
-  pub reply : row.reply ≡ reply_text s o
+pub record Shows (c : Config) (row : RequestRow) (o : Outcome) : Type 0 where
+  pub reply : row.reply ≡ reply_text c.schema o
   pub code : row.code ≡ code_of o
   pub found : row.found ≡ found_of o
   pub docs : row.docs ≡ docs_of o
 
 -- each of the numbers below n stands once in the list
 abbrev pub CountsOff : ℕ → List ℕ → Type 0
-CountsOff n xs = (length xs ≡ n) × AllByRecursion (λ k. count_by (λ x. x == k) xs ≡ 1) (count_up 0 n)
+CountsOff n xs = (length xs ≡ n) × AllByRecursion (λ k. count_by (λ x. x == k) xs ≡ 1) (range_with_len 0 n)
 
 -- ---- 1: one row a request
 
-abbrev pub asked_here : Request → ℕ × ℕ × Verb
-asked_here q = (q.client, q.line, q.verb)
+abbrev pub call_here : Call → ℕ × ℕ × Verb
+call_here q = (q.client, q.line, q.verb)
 
 abbrev pub told_here : RequestRow → ℕ × ℕ × Verb
 told_here r = (r.client, r.line, r.verb)
 
 -- The rows are the script's requests in its order, one each, and the numbers in a row are those of its reply. The searchers are the generations from 1 on.
-pub record AnswersEach (s : Fields) (script : List Line) (o : Output) : Type 0 where
-  pub rows : map told_here o.requests ≡ map asked_here (requests_of script)
-  pub numbers : AllByRecursion (λ r. (outcome : Outcome) × Shows s r outcome) o.requests
-  pub generations : map (λ g. g.generation) o.searchers ≡ count_up 1 (length o.searchers)
+pub record AnswersEach (c : Config) (script : List Line) (o : Output) : Type 0 where
+  pub rows : map told_here o.requests ≡ map call_here (calls_of script)
+  pub numbers : AllByRecursion (λ r. (outcome : Outcome) × Shows c r outcome) o.requests
+  pub generations : map (λ g. g.generation) o.searchers ≡ range_with_len 1 (length o.searchers)
 
 -- ---- 2: one history
 
 -- a commit's row opened the generation
 abbrev pub opens : ℕ → Told → Bool
-opens g t = is_commit t.asked.verb && is_some_of g t.row.generation
+opens g t = is_commit t.call.verb && is_some_of g t.row.generation
 
 -- exactly one commit opened the searcher, at its place, before it ended
 pub record IsOpenedOnce (told : List Told) (g : SearcherRow) : Type 0 where
@@ -83,19 +82,19 @@ pub record IsIdle (r : RequestRow) : Type 0 where
   pub ticket : r.ticket ≡ None
 
 -- refused, or there was no memory to tell it
-abbrev pub IsRefused : Fields → RequestRow → List ℕ → Type 0
-IsRefused s r message = IsIdle r × (Shows s r (refused message) ⊎ Shows s r no_memory)
+abbrev pub IsRefused : Config → RequestRow → List ℕ → Type 0
+IsRefused c r message = IsIdle r × (Shows c r (refused message) ⊎ Shows c r no_memory)
 
-pub record IsUpdated (s : Fields) (r : RequestRow) : Type 0 where
+pub record IsUpdated (c : Config) (r : RequestRow) : Type 0 where
   pub place : IsSome r.place
   pub generation : r.generation ≡ None
   pub ticket : r.ticket ≡ None
-  pub shown : Shows s r accepted
+  pub shown : Shows c r accepted
 
 -- An update that reads is accepted with a place, or there was no memory; one that does not is refused with its first fault.
-abbrev pub UpdateIsAnswered : {A : Type 0} → Fields → RequestRow → Result A (List ℕ) → Type 0
-UpdateIsAnswered s r (Ok change) = IsUpdated s r ⊎ (IsIdle r × Shows s r no_memory)
-UpdateIsAnswered s r (Err message) = IsRefused s r message
+abbrev pub UpdateIsAnswered : {A : Type 0} → Config → RequestRow → Result A (List ℕ) → Type 0
+UpdateIsAnswered c r (Ok change) = IsUpdated c r ⊎ (IsIdle r × Shows c r no_memory)
+UpdateIsAnswered c r (Err message) = IsRefused c r message
 
 -- ---- 5: the greatest generation serves
 
@@ -112,7 +111,7 @@ pub record HasOpened (c : Config) (o : Output) (r : RequestRow) (p g : ℕ) : Ty
   pub ticket : r.ticket ≡ None
   pub opened : opened_of g o.searchers ≡ Some p
   pub room : length (warming p o.searchers) < c.max_warming
-  pub shown : Shows c.schema r accepted
+  pub shown : Shows c r accepted
 
 -- it was refused, where the greatest number were warming, and these are told
 pub record HasTooMany (c : Config) (o : Output) (r : RequestRow) (p : ℕ) : Type 0 where
@@ -120,27 +119,27 @@ pub record HasTooMany (c : Config) (o : Output) (r : RequestRow) (p : ℕ) : Typ
   pub generation : r.generation ≡ None
   pub ticket : r.ticket ≡ None
   pub full : length (warming p o.searchers) ≡ c.max_warming
-  pub shown : Shows c.schema r (too_many (warming p o.searchers))
+  pub shown : Shows c r (too_many (warming p o.searchers))
 
 -- what a commit that opens is answered, and one that does not
 abbrev pub FormIsAnswered : Config → Output → RequestRow → Bool → Type 0
 FormIsAnswered c o r true = ((p : ℕ) × (g : ℕ) × HasOpened c o r p g) ⊎ ((p : ℕ) × HasTooMany c o r p)
-FormIsAnswered c o r false = IsUpdated c.schema r
+FormIsAnswered c o r false = IsUpdated c r
 
 -- A commit that reads opens a searcher where there is room, or is told who is warming; without a searcher it only takes its place.
 abbrev pub CommitIsAnswered : Config → Output → RequestRow → Result CommitForm (List ℕ) → Type 0
-CommitIsAnswered c o r (Ok form) = FormIsAnswered c o r form.opens ⊎ (IsIdle r × Shows c.schema r no_memory)
-CommitIsAnswered c o r (Err message) = IsRefused c.schema r message
+CommitIsAnswered c o r (Ok form) = FormIsAnswered c o r form.opens ⊎ (IsIdle r × Shows c r no_memory)
+CommitIsAnswered c o r (Err message) = IsRefused c r message
 
 -- ---- 7: queries
 
 -- the generation and ticket of a query's row
 abbrev pub pin_of : Told → Option (ℕ × ℕ)
-pin_of t = if is_query t.asked.verb then option_and_then (λ g. option_map (λ k. (g, k)) t.row.ticket) t.row.generation else None
+pin_of t = if is_query t.call.verb then option_and_then (λ g. option_map (λ k. (g, k)) t.row.ticket) t.row.generation else None
 
 -- those of the client's rows
 abbrev pub pins : ℕ → List Told → List (ℕ × ℕ)
-pins client told = filter_map (λ t. if t.asked.client == client then pin_of t else None) told
+pins client told = filter_map (λ t. if t.call.client == client then pin_of t else None) told
 
 -- generations never go back, and tickets of one generation rise
 abbrev pub IsBehind : ℕ → ℕ → ℕ × ℕ → Type 0
@@ -152,31 +151,31 @@ WasCurrent o before t behind g =
     (p : ℕ) × (low o.searchers before t ≤ p) × (p < high (place_count o) t behind) × (current_at p o.searchers ≡ g)
 
 -- it acquired a searcher, and its reply is the answer on what that searcher sees
-pub record IsServed (s : Fields) (told : List Told) (o : Output) (before : List Told) (t : Told) (behind : List Told) (asked : Asked) (g k : ℕ) : Type 0 where
+pub record IsServed (c : Config) (told : List Told) (o : Output) (before : List Told) (t : Told) (behind : List Told) (asked : Asked) (g k : ℕ) : Type 0 where
   pub place : t.row.place ≡ None
   pub generation : t.row.generation ≡ Some g
   pub ticket : t.row.ticket ≡ Some k
   pub current : WasCurrent o before t behind g
-  pub rising : AllByRecursion (IsBehind g k) (pins t.asked.client before)
-  pub shown : Shows s t.row (found asked (answer (view_of s told o g) asked)) ⊎ Shows s t.row no_memory
+  pub rising : AllByRecursion (IsBehind g k) (pins t.call.client before)
+  pub shown : Shows c t.row (found asked (answer (view_of c told o g) asked)) ⊎ Shows c t.row no_memory
 
 -- A query that reads is served from one registered searcher, or there was no memory; one that does not is refused.
-abbrev pub QueryIsAnswered : Fields → List Told → Output → List Told → Told → List Told → Result Asked (List ℕ) → Type 0
-QueryIsAnswered s told o before t behind (Ok asked) =
-    ((g : ℕ) × (k : ℕ) × IsServed s told o before t behind asked g k) ⊎ (IsIdle t.row × Shows s t.row no_memory)
-QueryIsAnswered s told o before t behind (Err message) = IsRefused s t.row message
+abbrev pub QueryIsAnswered : Config → List Told → Output → List Told → Told → List Told → Result Asked (List ℕ) → Type 0
+QueryIsAnswered c told o before t behind (Ok asked) =
+    ((g : ℕ) × (k : ℕ) × IsServed c told o before t behind asked g k) ⊎ (IsIdle t.row × Shows c t.row no_memory)
+QueryIsAnswered c told o before t behind (Err message) = IsRefused c t.row message
 
 -- ---- each request
 
 abbrev pub IsAnsweredAs : Verb → Config → List Told → Output → List Told → Told → List Told → Type 0
-IsAnsweredAs add c told o before t behind = UpdateIsAnswered c.schema t.row (update_of c.schema t.asked)
-IsAnsweredAs delete c told o before t behind = UpdateIsAnswered c.schema t.row (update_of c.schema t.asked)
-IsAnsweredAs query c told o before t behind = QueryIsAnswered c.schema told o before t behind (query_of c.schema t.asked.body)
-IsAnsweredAs commit c told o before t behind = CommitIsAnswered c o t.row (commit_of t.asked.body)
+IsAnsweredAs add c told o before t behind = UpdateIsAnswered c t.row (update_of c t.call)
+IsAnsweredAs delete c told o before t behind = UpdateIsAnswered c t.row (update_of c t.call)
+IsAnsweredAs query c told o before t behind = QueryIsAnswered c told o before t behind (query_of c t.call.body)
+IsAnsweredAs commit c told o before t behind = CommitIsAnswered c o t.row (commit_of t.call.body)
 
 -- each request is answered as its verb wants: updates, commits and queries
 abbrev pub IsAnswered : Config → List Told → Output → List Told → Told → List Told → Type 0
-IsAnswered c told o before t behind = IsAnsweredAs t.asked.verb c told o before t behind
+IsAnswered c told o before t behind = IsAnsweredAs t.call.verb c told o before t behind
 
 -- ---- 8: tickets
 
@@ -199,19 +198,23 @@ IsWarmedFrom ss g pin = (p : ℕ) × (g.opened ≤ p) × (p < g.ended) × (curre
 abbrev pub IsWarmed : Output → SearcherRow → Type 0
 IsWarmed o g = IsSome g.from × IfSome g.from (IsWarmedFrom o.searchers g)
 
--- The first searcher was warmed from none, and each later one as it must be.
-abbrev pub TellsWarmings : Output → List SearcherRow → Type 0
-TellsWarmings o [] = Unit {0}
-TellsWarmings o (g ∷ gs) = (g.from ≡ None) × AllByRecursion (IsWarmed o) gs
+-- the generation and the ticket that the first searcher tells: none, since no listener is built yet that could have it acquired
+abbrev pub first_from : Config → Option (ℕ × ℕ)
+first_from c = None
+
+-- The first searcher tells what the configuration wants, and each later one was warmed as it must be.
+abbrev pub TellsWarmings : Config → Output → List SearcherRow → Type 0
+TellsWarmings c o [] = Unit {0}
+TellsWarmings c o (g ∷ gs) = (g.from ≡ first_from c) × AllByRecursion (IsWarmed o) gs
 
 -- ---- the whole
 
 -- The output tells one history in which each request was answered as it must be.
 pub record Lawful (c : Config) (script : List Line) (o : Output) : Type 0 where
-  pub answers_each : AnswersEach c.schema script o
-  pub one_history : IsOneHistory (tell (requests_of script) o.requests) o
-  pub keeps_order : Each (KeepsOrder o) [] (tell (requests_of script) o.requests)
-  pub answered : Each (IsAnswered c (tell (requests_of script) o.requests) o) [] (tell (requests_of script) o.requests)
+  pub answers_each : AnswersEach c script o
+  pub one_history : IsOneHistory (tell (calls_of script) o.requests) o
+  pub keeps_order : Each (KeepsOrder o) [] (tell (calls_of script) o.requests)
+  pub answered : Each (IsAnswered c (tell (calls_of script) o.requests) o) [] (tell (calls_of script) o.requests)
   pub greatest_serves : AllByRecursion (ServesUnlessOlder o) o.searchers
-  pub tickets : AllByRecursion (CountsTickets (tell (requests_of script) o.requests) o) o.searchers
-  pub warmings : TellsWarmings o o.searchers
+  pub tickets : AllByRecursion (CountsTickets (tell (calls_of script) o.requests) o) o.searchers
+  pub warmings : TellsWarmings c o o.searchers

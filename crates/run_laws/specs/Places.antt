@@ -1,19 +1,14 @@
 -- The places of the journal, read off the rows.
-use Rattle.std.specs.Prelude.{ℕ, zero, suc, ◌+◌, List, [], ◌∷◌, ◌++◌, length, take, map, filter, Bool, false, ◌&&◌, ◌==◌, nat_lt, nat_le, if◌then◌else◌, Option, Some, None}
-use Rattle.std.specs.List.{filter_map}
+use Rattle.std.specs.Prelude.{ℕ, List, [], ◌∷◌, ◌++◌, length, take, map, filter, Bool, false, ◌&&◌, ◌==◌, nat_lt, nat_le, if◌then◌else◌, Option, Some, None}
+use Rattle.std.specs.List.{filter_map, range_with_len}
 use Rattle.std.specs.Option.{option_map_or}
-use Rattle.doc_model.specs.Document.{Document}
-use Rattle.field_schema.specs.Schema.{Fields}
-use Rattle.search_model.specs.Live.{Change, nothing, view_at}
 use Rattle.std.specs.Result.{result_unwrap_or}
+use Rattle.doc_model.specs.Document.{Document}
+use Rattle.search_model.specs.Live.{Change, nothing, view_at}
+use Rattle.script_form.specs.declared.config.Config.{Config}
 use Rattle.run_laws.specs.Rows.{SearcherRow, Output}
-use Rattle.run_laws.specs.Requests.{Told}
-use Rattle.run_laws.specs.Reading.{update_of}
-
--- n numbers from a on
-abbrev pub count_up : ℕ → ℕ → List ℕ
-count_up a zero = []
-count_up a (suc n) = a ∷ count_up (a + 1) n
+use Rattle.run_laws.specs.Calls.{Told}
+use Rattle.run_laws.specs.CallReadings.{update_of}
 
 abbrev pub is_some_of : ℕ → Option ℕ → Bool
 is_some_of n None = false
@@ -58,18 +53,18 @@ warming p ss = map (λ s. s.generation) (filter (λ s. nat_lt s.opened p && nat_
 -- ---- the journal
 
 -- what an update's row changed
-abbrev pub change_of : Fields → Told → Change
-change_of s t = result_unwrap_or (update_of s t.asked) nothing
+abbrev pub change_of : Config → Told → Change
+change_of c t = result_unwrap_or (update_of c t.call) nothing
 
 -- what the row with place p changed
-abbrev pub change_at : Fields → ℕ → List Told → Change
-change_at s p [] = nothing
-change_at s p (t ∷ ts) = if is_some_of p t.row.place then change_of s t else change_at s p ts
+abbrev pub change_at : Config → ℕ → List Told → Change
+change_at c p [] = nothing
+change_at c p (t ∷ ts) = if is_some_of p t.row.place then change_of c t else change_at c p ts
 
 -- the changes by place
-abbrev pub journal : Fields → List Told → Output → List Change
-journal s told o = map (λ p. change_at s p told) (count_up 0 (place_count o))
+abbrev pub journal : Config → List Told → Output → List Change
+journal c told o = map (λ p. change_at c p told) (range_with_len 0 (place_count o))
 
 -- the documents that the searcher of a generation sees
-abbrev pub view_of : Fields → List Told → Output → ℕ → List Document
-view_of s told o g = option_map_or (view_at s.key (journal s told o)) (opened_of g o.searchers) []
+abbrev pub view_of : Config → List Told → Output → ℕ → List Document
+view_of c told o g = option_map_or (view_at (journal c told o)) (opened_of g o.searchers) []

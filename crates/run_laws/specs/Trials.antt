@@ -8,13 +8,13 @@ use Rattle.query_tree.specs.declared.query.Query.{Term}
 use Rattle.search_model.specs.Answer.{Asked, answer}
 use Rattle.search_model.specs.Reply.{Outcome, found, accepted, too_many, no_memory, reply_text, code_of, found_of, docs_of}
 use Rattle.script_form.specs.ReadConfig.{default_config}
-use Rattle.script_form.specs.Requests.{first_ten}
+use Rattle.script_form.specs.BodyForms.{first_ten}
 use Rattle.script_form.specs.declared.config.Config.{Config}
 use Rattle.script_form.specs.declared.script.Line.{Line}
 use Rattle.script_form.specs.declared.script.What.{What}
 use Rattle.script_form.specs.declared.script.What.TheVariants as what
 use Rattle.run_laws.specs.Rows.{Verb, add, query, commit, RequestRow, SearcherRow, Output}
-use Rattle.run_laws.specs.Requests.{Told, requests_of, tell, Each}
+use Rattle.run_laws.specs.Calls.{Told, calls_of, tell, Each}
 use Rattle.run_laws.specs.Lawful.{AnswersEach, IsOneHistory, KeepsOrder, IsAnswered, ServesUnlessOlder, CountsTickets, TellsWarmings}
 
 -- ---- the laws one by one
@@ -30,17 +30,17 @@ pub data Law : Type 0 where
 
 -- the requests of a script with the rows of an output
 abbrev pub told_of : List Line → Output → List Told
-told_of script o = tell (requests_of script) o.requests
+told_of script o = tell (calls_of script) o.requests
 
 -- the output keeps one law
 abbrev pub Keeps : Config → List Line → Output → Law → Type 0
-Keeps c script o one_row_each = AnswersEach c.schema script o
+Keeps c script o one_row_each = AnswersEach c script o
 Keeps c script o one_history = IsOneHistory (told_of script o) o
 Keeps c script o clients_orders = Each (KeepsOrder o) [] (told_of script o)
 Keeps c script o answers = Each (IsAnswered c (told_of script o) o) [] (told_of script o)
 Keeps c script o greatest_serves = AllByRecursion (ServesUnlessOlder o) o.searchers
 Keeps c script o tickets = AllByRecursion (CountsTickets (told_of script o) o) o.searchers
-Keeps c script o warmings = TellsWarmings o o.searchers
+Keeps c script o warmings = TellsWarmings c o o.searchers
 
 -- it breaks this law and keeps every other
 pub record BreaksAlone (c : Config) (script : List Line) (o : Output) (law : Law) : Type 0 where
@@ -69,7 +69,7 @@ find_x = codes "q=cat:x"
 
 -- what the body of the add reads to
 abbrev pub document_a : Document
-document_a = (key.Str (codes "a") ∷ []) ∷ (key.Str (codes "x") ∷ []) ∷ []
+document_a = record { values = (key.Str (codes "a") ∷ []) ∷ (key.Str (codes "x") ∷ []) ∷ []; id = codes "a" }
 
 -- what the body of the query asks for
 abbrev pub asked_x : Asked
@@ -126,6 +126,14 @@ queries_and_commit = line 1 (what.Query 1 find_x) ∷ line 2 (what.Query 1 find_
 
 abbrev pub one_query : List Line
 one_query = line 1 (what.Query 1 find_x) ∷ []
+
+-- one client queries, and then commits
+abbrev pub query_then_commit : List Line
+query_then_commit = line 1 (what.Query 1 find_x) ∷ line 2 (what.Commit 1 []) ∷ []
+
+-- one client commits twice
+abbrev pub commits_in_turn : List Line
+commits_in_turn = line 1 (what.Commit 1 []) ∷ line 2 (what.Commit 1 []) ∷ []
 
 -- ---- rows
 
@@ -205,6 +213,15 @@ overtaken = record {
   searchers = first 2 ∷ searcher 2 2 5 false 0 (Some (1, 0)) ∷ searcher 3 3 4 true 0 (Some (1, 1)) ∷ [];
 }
 
+-- its text
+abbrev pub overtaken_text : List ℕ
+overtaken_text =
+    codes "{\"client\":1,\"generation\":2,\"line\":1,\"place\":2,\"reply\":{\"responseHeader\":{\"status\":0}}}\n" ++
+    (codes "{\"client\":2,\"generation\":3,\"line\":2,\"place\":3,\"reply\":{\"responseHeader\":{\"status\":0}}}\n" ++
+    (codes "{\"acquired\":2,\"finished\":1,\"generation\":1,\"opened\":0}\n" ++
+    (codes "{\"acquired\":0,\"from\":1,\"fromTicket\":0,\"generation\":2,\"opened\":2,\"superseded\":5}\n" ++
+    codes "{\"acquired\":0,\"finished\":4,\"from\":1,\"fromTicket\":1,\"generation\":3,\"opened\":3}\n")))
+
 -- the second commit comes while one searcher is warming, and is told which
 abbrev pub warming_told : Output
 warming_told = record {
@@ -215,6 +232,10 @@ warming_told = record {
 -- there was no memory for the add
 abbrev pub add_without_memory : Output
 add_without_memory = record { requests = row 1 1 add None None None no_memory ∷ []; searchers = first 0 ∷ [] }
+
+-- there was no memory for the reply of a query that had acquired the first searcher
+abbrev pub query_without_memory : Output
+query_without_memory = record { requests = row 1 1 query None (Some 1) (Some 0) no_memory ∷ []; searchers = first 1 ∷ [] }
 
 -- ---- outputs that break one law
 
@@ -334,7 +355,7 @@ reply_of_another_view = record {
 
 -- a document that nobody added
 abbrev pub document_b : Document
-document_b = (key.Str (codes "b") ∷ []) ∷ (key.Str (codes "x") ∷ []) ∷ []
+document_b = record { values = (key.Str (codes "b") ∷ []) ∷ (key.Str (codes "x") ∷ []) ∷ []; id = codes "b" }
 
 -- the reply has as many documents as it must, but another one
 abbrev pub reply_with_another_document : Output
@@ -357,6 +378,13 @@ served_backwards = record {
   searchers = first 2 ∷ searcher 2 2 3 true 1 (Some (1, 0)) ∷ [];
 }
 
+-- a query is served from the searcher that its client's later commit opens
+abbrev pub served_from_after : Output
+served_from_after = record {
+  requests = served 1 2 0 [] ∷ committed_at 1 2 2 2 ∷ [];
+  searchers = first 1 ∷ searcher 2 2 3 true 1 (Some (1, 0)) ∷ [];
+}
+
 -- the client's second query has the lower ticket
 abbrev pub tickets_descend : Output
 tickets_descend = record { requests = served 1 1 1 [] ∷ served 2 1 0 [] ∷ []; searchers = first 2 ∷ [] }
@@ -365,6 +393,10 @@ tickets_descend = record { requests = served 1 1 1 [] ∷ served 2 1 0 [] ∷ []
 abbrev pub ticket_is_skipped : Output
 ticket_is_skipped = found_once 1 1 (Some (1, 0)) 1
 
+-- a query has a ticket though its searcher was never acquired
+abbrev pub ticket_past_acquired : Output
+ticket_past_acquired = record { requests = served 1 1 0 [] ∷ []; searchers = first 0 ∷ [] }
+
 -- the second searcher was warmed from none
 abbrev pub warmed_from_none : Output
 warmed_from_none = found_once 0 1 None 0
@@ -372,3 +404,10 @@ warmed_from_none = found_once 0 1 None 0
 -- the second searcher was warmed from itself
 abbrev pub warmed_from_itself : Output
 warmed_from_itself = found_once 0 2 (Some (2, 0)) 1
+
+-- the third searcher was warmed from the first, which was current only before the third was opened
+abbrev pub warmed_from_before : Output
+warmed_from_before = record {
+  requests = committed_at 1 1 2 2 ∷ committed_at 1 2 4 3 ∷ [];
+  searchers = first 2 ∷ searcher 2 2 3 true 0 (Some (1, 0)) ∷ searcher 3 4 5 true 0 (Some (1, 1)) ∷ [];
+}

@@ -3,7 +3,7 @@
 ghost use Rattle.std.specs.Prelude.{◌≡◌, ◌∷◌, [], map};
 ghost use Rattle.run_laws.specs.Lawful.{Lawful};
 ghost use Rattle.run_laws.specs.OutputText.{output_text};
-ghost use Rattle.run_laws.specs.Trials.{BreaksAlone, one_row_each, one_history, clients_orders, answers, greatest_serves, tickets, warmings, one_warming, two_warming, add_commit_query, two_adds, adds_of_two, adds_in_phases, bad_add, one_commit, two_commits, one_query, two_queries, queries_and_commit, one_add, commit_then_add, commit_then_phase, worked, worked_text};
+ghost use Rattle.run_laws.specs.Trials.{BreaksAlone, one_row_each, one_history, clients_orders, answers, greatest_serves, tickets, warmings, one_warming, two_warming, add_commit_query, two_adds, adds_of_two, adds_in_phases, bad_add, one_commit, two_commits, one_query, two_queries, queries_and_commit, query_then_commit, commits_in_turn, one_add, commit_then_add, commit_then_phase, worked, worked_text};
 ghost use Rattle.run_laws.specs.Trials as trial;
 
 /// A document is added, committed and found: the output is lawful, the query's row alone tells a
@@ -16,12 +16,15 @@ pub fn worked_output_is_lawful()
 {}
 
 /// Outputs that no serial run gives are lawful too: a later searcher overtakes an earlier one, a commit is told who is
-/// warming, and there is no memory for an add. So is the output of an empty script.
+/// warming, and there is no memory for an add, or for the reply of a query that had acquired its searcher. So is the
+/// output of an empty script. The text of a superseded searcher is spelled out.
 pub fn other_outputs_are_lawful()
     ensures nothing { Lawful one_warming [] trial.nothing_asked }
     ensures overtaken { Lawful two_warming two_commits trial.overtaken }
     ensures warming { Lawful one_warming two_commits trial.warming_told }
     ensures memory { Lawful one_warming one_add trial.add_without_memory }
+    ensures served { Lawful one_warming one_query trial.query_without_memory }
+    ensures superseded { output_text trial.overtaken ≡ trial.overtaken_text }
 {}
 
 /// Each request has a row.
@@ -162,6 +165,12 @@ pub fn service_from_before_is_unlawful()
     ensures alone { BreaksAlone one_warming add_commit_query trial.served_from_before answers }
 {}
 
+/// A query is served from no searcher that was opened behind it.
+pub fn service_from_after_is_unlawful()
+    ensures unlawful { Lawful one_warming query_then_commit trial.served_from_after → ⊥ }
+    ensures alone { BreaksAlone one_warming query_then_commit trial.served_from_after answers }
+{}
+
 /// A client's later query is served from no earlier generation.
 pub fn backward_service_is_unlawful()
     ensures unlawful { Lawful one_warming queries_and_commit trial.served_backwards → ⊥ }
@@ -180,6 +189,12 @@ pub fn skipped_ticket_is_unlawful()
     ensures alone { BreaksAlone one_warming add_commit_query trial.ticket_is_skipped tickets }
 {}
 
+/// Tickets lie below the number of acquires.
+pub fn ticket_past_acquired_is_unlawful()
+    ensures unlawful { Lawful one_warming one_query trial.ticket_past_acquired → ⊥ }
+    ensures alone { BreaksAlone one_warming one_query trial.ticket_past_acquired tickets }
+{}
+
 /// A searcher above the first is warmed from one.
 pub fn warming_from_none_is_unlawful()
     ensures unlawful { Lawful one_warming add_commit_query trial.warmed_from_none → ⊥ }
@@ -190,4 +205,10 @@ pub fn warming_from_none_is_unlawful()
 pub fn warming_from_itself_is_unlawful()
     ensures unlawful { Lawful one_warming add_commit_query trial.warmed_from_itself → ⊥ }
     ensures alone { BreaksAlone one_warming add_commit_query trial.warmed_from_itself warmings }
+{}
+
+/// No searcher is warmed from one that was current only before it was opened.
+pub fn warming_from_before_is_unlawful()
+    ensures unlawful { Lawful one_warming commits_in_turn trial.warmed_from_before → ⊥ }
+    ensures alone { BreaksAlone one_warming commits_in_turn trial.warmed_from_before warmings }
 {}

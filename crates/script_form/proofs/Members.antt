@@ -9,7 +9,7 @@ use Rattle.serde_json.specs.Find.{as_str}
 use Rattle.serde_json.specs.View.{members_view, view}
 use Rattle.serde_json.specs.declared.value.Value.{Value}
 use Rattle.std.specs.Map.{values_of}
-use Rattle.script_form.specs.Requests.{all_texts}
+use Rattle.script_form.specs.BodyForms.{all_texts}
 
 abbrev pub is_text : Value → Bool
 is_text v = is_some (as_str (view v))

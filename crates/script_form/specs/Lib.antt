@@ -1,4 +1,4 @@
 pub mod Lines
 pub mod ReadConfig
-pub mod Requests
+pub mod BodyForms
 pub mod ReadScript

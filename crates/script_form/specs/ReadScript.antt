@@ -12,7 +12,7 @@ use Rattle.script_form.specs.declared.script.What.{What}
 use Rattle.script_form.specs.declared.script.What.TheVariants as what
 use Rattle.script_form.specs.declared.script.ScriptRefusal.{ScriptRefusal}
 use Rattle.script_form.specs.declared.script.ScriptRefusal.TheVariants as refusal
-use Rattle.script_form.specs.Requests.{is_add_body, asked_of}
+use Rattle.script_form.specs.BodyForms.{is_add_body, asked_of}
 
 -- empty, or a comment
 abbrev pub is_nothing : List ℕ → Bool

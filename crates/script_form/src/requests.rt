@@ -3,7 +3,7 @@ ghost use Rattle.serde_json.specs.Read.{read};
 ghost use Rattle.serde_json.specs.View.{members_view, view};
 ghost use Rattle.field_schema.specs.Names.{is_digit, is_letter};
 ghost use Rattle.doc_model.specs.ReadDoc.{doc_of};
-ghost use Rattle.script_form.specs.Requests.{all_texts, asked_of, is_add_body, is_alphanumeric as is_alphanumeric_word, first_ten, is_word as is_search_word, term_of};
+ghost use Rattle.script_form.specs.BodyForms.{all_texts, asked_of, is_add_body, is_alphanumeric as is_alphanumeric_word, first_ten, is_word as is_search_word, term_of};
 ghost use Rattle.query_tree.specs.declared.query.Query.{Term};
 ghost use Rattle.field_schema.specs.declared.key.Key.TheVariants as Key;
 

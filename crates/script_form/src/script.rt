@@ -1,7 +1,7 @@
 ghost use Rattle.std.specs.Prelude.{◌≡◌, ◌<◌, ◌^◌, length, Ok, Err, Some, None, IfOk, MatchResult, is_some, if◌then◌else◌};
 ghost use Rattle.std.specs.Str.Lines.{lines};
 ghost use Rattle.script_form.specs.ReadScript.{script_of, what_in, what_of, IsScriptRefusal};
-ghost use Rattle.script_form.specs.Requests.{asked_of, is_add_body};
+ghost use Rattle.script_form.specs.BodyForms.{asked_of, is_add_body};
 ghost use Rattle.script_form.specs.declared.script.What.TheVariants.{Add as an_add, Query as a_query};
 
 use crate::lines::next_line;

@@ -21,7 +21,7 @@ pub record Answer : Type 0 where
 
 -- the documents that match the query and every filter, in index order
 abbrev pub matching : List Document → Asked → List Document
-matching view asked = filter (λ d. top d asked.query && list_all (top d) asked.filters) view
+matching view asked = filter (λ d. top d.values asked.query && list_all (top d.values) asked.filters) view
 
 abbrev pub answer : List Document → Asked → Answer
 answer view asked = record {

@@ -78,15 +78,9 @@ code_of no_memory = 500
 -- how many documents the reply says were found
 abbrev pub found_of : Outcome → ℕ
 found_of (found asked a) = a.found
-found_of accepted = 0
-found_of (refused message) = 0
-found_of (too_many generations) = 0
-found_of no_memory = 0
+found_of _ = 0
 
 -- how many documents the reply has
 abbrev pub docs_of : Outcome → ℕ
 docs_of (found asked a) = length a.docs
-docs_of accepted = 0
-docs_of (refused message) = 0
-docs_of (too_many generations) = 0
-docs_of no_memory = 0
+docs_of _ = 0

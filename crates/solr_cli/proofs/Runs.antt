@@ -9,7 +9,7 @@ use Rattle.client_runner.specs.Outputs.{output_view}
 use Rattle.solr_cli.specs.declared.status.Status.{Status}
 use Rattle.solr_cli.specs.declared.status.Status.TheVariants as status
 use Rattle.solr_cli.specs.Answering.{IsAnswer, IsRefusal, ReadsTo}
-use Rattle.solr_cli.specs.Top.{IsReadRefusal, IsRunFrom}
+use Rattle.solr_cli.specs.InputRuns.{IsReadRefusal, IsRunFrom}
 use Rattle.solr_cli.proofs.Inputs.{beyond_input, within_input}
 
 -- the bytes that were taken are all of them

@@ -26,14 +26,11 @@ pub record IsBadLine (input : List ℕ) (c : Config) (fault : LineFault) : Type 
 
 -- why an input is refused: each status has its cause in the bytes, and want of memory is free
 abbrev pub IsRefusal : List ℕ → Status → Type 0
-IsRefusal input status.Done = ⊥
-IsRefusal input status.Usage = ⊥
-IsRefusal input status.ReadFault = ⊥
-IsRefusal input status.WriteFault = ⊥
 IsRefusal input (status.BadConfig at name) = (too_large input ≡ false) × (config_of input ≡ None) × (at ≡ 0) × (name ≡ codes "config")
 IsRefusal input (status.BadLine line name) = (config : Config) × IsBadLine input config (record { line = line; name = name })
 IsRefusal input status.TooLarge = too_large input ≡ true
 IsRefusal input status.NoMemory = ⊤
+IsRefusal input _ = ⊥
 
 -- the input reads, its output is lawful, and this is the output's text
 abbrev pub IsAnswer : List ℕ → Output → List ℕ → Type 0

@@ -3,3 +3,4 @@ pub mod Reading
 pub mod Writing
 pub mod Answering
 pub mod Top
+pub mod InputRuns

@@ -22,24 +22,14 @@ is_run (word ∷ other ∷ words) = false
 -- P, where the status is one that writes nothing
 abbrev pub WhereQuiet : Status → Type 0 → Type 0
 WhereQuiet status.Done P = ⊤
-WhereQuiet status.Usage P = P
-WhereQuiet status.ReadFault P = P
 WhereQuiet status.WriteFault P = ⊤
-WhereQuiet (status.BadConfig at name) P = P
-WhereQuiet (status.BadLine line name) P = P
-WhereQuiet status.TooLarge P = P
-WhereQuiet status.NoMemory P = P
+WhereQuiet _ P = P
 
 -- all of the output's text was appended where the command is done, and a front of it where a write failed; else there is no output
 abbrev pub Writes : Status → Option Output → Option (List ℕ) → Option (List ℕ) → Type 0
 Writes status.Done output before now = IsSomeAnd output (λ o. Appends before now (output_text (output_view o)))
-Writes status.Usage output before now = output ≡ None
-Writes status.ReadFault output before now = output ≡ None
 Writes status.WriteFault output before now = IsSomeAnd output (λ o. AppendsPart before now (output_text (output_view o)))
-Writes (status.BadConfig at name) output before now = output ≡ None
-Writes (status.BadLine line name) output before now = output ≡ None
-Writes status.TooLarge output before now = output ≡ None
-Writes status.NoMemory output before now = output ≡ None
+Writes _ output before now = output ≡ None
 
 -- the input reads to this configuration and this script, and the output is lawful for them
 pub record RunsTo (input : List ℕ) (config : Config) (script : List Line) (output : Output) : Type 0 where
@@ -54,41 +44,11 @@ pub record IsRunOf (input : List ℕ) (left : Option (List ℕ)) (output : Optio
 -- why the command ended so, over the bytes of its input
 abbrev pub IsExplained : List ℕ → Option (List ℕ) → Status → Option Output → Type 0
 IsExplained input left status.Done output = IsRunOf input left output
+IsExplained input left status.WriteFault output = IsRunOf input left output
 IsExplained input left status.Usage output = ⊤
 IsExplained input left status.ReadFault output = ⊤
-IsExplained input left status.WriteFault output = IsRunOf input left output
-IsExplained input left (status.BadConfig at name) output = IsRefusal input (status.BadConfig at name)
-IsExplained input left (status.BadLine line name) output = IsRefusal input (status.BadLine line name)
-IsExplained input left status.TooLarge output = IsRefusal input status.TooLarge
-IsExplained input left status.NoMemory output = ⊤
+IsExplained input left s output = IsRefusal input s
 
 -- an input that reads is run, unless memory was wanting
 abbrev pub Completes : Status → List ℕ → Type 0
 Completes s input = (config : Config) (script : List Line) → ReadsTo input config script → (s ≡ status.Done) ⊎ (s ≡ status.NoMemory)
-
--- why an input was not run
-abbrev pub IsReadRefusal : List ℕ → Status → Type 0
-IsReadRefusal input status.Done = ⊥
-IsReadRefusal input status.Usage = ⊥
-IsReadRefusal input status.ReadFault = ⊤
-IsReadRefusal input status.WriteFault = ⊥
-IsReadRefusal input (status.BadConfig at name) = IsRefusal input (status.BadConfig at name)
-IsReadRefusal input (status.BadLine line name) = IsRefusal input (status.BadLine line name)
-IsReadRefusal input status.TooLarge = IsRefusal input status.TooLarge
-IsReadRefusal input status.NoMemory = ⊤
-
--- a status that refuses an input
-abbrev pub Refuses : Status → Type 0
-Refuses status.Done = ⊥
-Refuses status.Usage = ⊥
-Refuses status.ReadFault = ⊤
-Refuses status.WriteFault = ⊥
-Refuses (status.BadConfig at name) = ⊤
-Refuses (status.BadLine line name) = ⊤
-Refuses status.TooLarge = ⊤
-Refuses status.NoMemory = ⊤
-
--- what running an input gives: its output and the output's text
-pub record IsRunFrom (input : List ℕ) (left : Option (List ℕ)) (output : Output) : Type 0 where
-  pub ended : left ≡ Some []
-  pub ran : (config : Config) × (script : List Line) × RunsTo input config script output

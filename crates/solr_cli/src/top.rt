@@ -3,7 +3,8 @@ ghost use Rattle.rt_edge.specs.Faults.{Rose};
 ghost use Rattle.run_laws.specs.OutputText.{output_text};
 ghost use Rattle.client_runner.specs.Outputs.{output_view};
 ghost use Rattle.solr_cli.specs.declared.status.Status.TheVariants as Status;
-ghost use Rattle.solr_cli.specs.Top.{Completes, IsExplained, IsReadRefusal, IsRunFrom, Refuses, WhereQuiet, Writes, is_run};
+ghost use Rattle.solr_cli.specs.InputRuns.{IsReadRefusal, IsRunFrom, Refuses};
+ghost use Rattle.solr_cli.specs.Top.{Completes, IsExplained, WhereQuiet, Writes, is_run};
 
 use crate::answer::answer;
 use crate::reading::{ReadRefusal, read_all};

@@ -26,7 +26,7 @@ fn shown(alloc: Global, index: &Index) -> Result<String, Fail> {
         if !slot.is_seen(index.opened) {
             continue;
         }
-        if let ([Key::Str(id)], [Key::Str(value)]) = (slot.doc.keys(0), slot.doc.keys(1)) {
+        if let ([Key::Str(id)], [Key::Str(value)]) = (slot.doc.values(0), slot.doc.values(1)) {
             text.push_str(id.get())?;
             text.push('=')?;
             text.push_str(value.get())?;
@@ -70,7 +70,7 @@ fn a_searcher_sees_what_stood_as_it_was_opened(rt: HostRuntime) -> Result<(), Fa
     let alloc = rt.alloc();
     let schema = Schema::read(alloc, &Value::from_str(alloc, SCHEMA)?)?;
     for (steps, want) in RUNS {
-        let mut index = Index::new(alloc, schema.key_field());
+        let mut index = Index::new(alloc);
         run(alloc, &mut index, &schema, steps)?;
         assert_eq!(rt; shown(alloc, &index)?.as_str(), want, "after {steps}");
     }
@@ -83,7 +83,7 @@ fn a_searcher_sees_what_stood_as_it_was_opened(rt: HostRuntime) -> Result<(), Fa
 fn replaced_documents_leave_no_trace(rt: HostRuntime) -> Result<(), Fail> {
     let alloc = rt.alloc();
     let schema = Schema::read(alloc, &Value::from_str(alloc, SCHEMA)?)?;
-    let mut index = Index::new(alloc, schema.key_field());
+    let mut index = Index::new(alloc);
     let mut want = String::new(alloc);
     for turn in 0..5000u32 {
         let id = format!(in alloc; "k{}", turn * 7 % 50)?;

@@ -1,7 +1,7 @@
 use Rattle.std.proofs.Common.{◌≡◌, ◌∙◌, ap, sym, map, None, subst, IfSome}
 use Rattle.std.specs.Prelude.{IsSomeAnd, slice_get}
 use Rattle.std.proofs.lemmas.List.{map-set}
-use Rattle.client_runner.specs.Kept.{emptied, latest}
+use Rattle.client_runner.specs.IndexState.{emptied, latest}
 use Rattle.client_runner.proofs.Seen.{seen-replaced}
 use Rattle.client_runner.proofs.index.replace.Goals as goal
 

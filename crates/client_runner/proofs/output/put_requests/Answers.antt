@@ -1,5 +1,5 @@
 use Rattle.std.proofs.Common.{string_bytes}
-use Rattle.client_runner.specs.Lines.{request_line}
+use Rattle.client_runner.specs.OutputPieces.{request_line}
 use Rattle.client_runner.specs.Views.{request_view}
 use Rattle.client_runner.proofs.Joins.{one_more_line}
 use Rattle.client_runner.proofs.output.put_requests.Goals as goal

@@ -1,6 +1,6 @@
 use Rattle.std.proofs.Common.{take, string_bytes}
 use Rattle.std.specs.List.{flat_map}
-use Rattle.client_runner.specs.Lines.{Grows, request_line}
+use Rattle.client_runner.specs.OutputPieces.{Grows, request_line}
 use Rattle.client_runner.specs.Views.{request_view}
 use Rattle.client_runner.proofs.output.put_requests.Given as goal
 

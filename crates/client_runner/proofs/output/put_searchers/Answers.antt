@@ -1,6 +1,6 @@
 use Rattle.std.proofs.Common.{string_bytes, false, None}
 use Rattle.client_runner.specs.declared.rows.SearcherRow.{SearcherRow}
-use Rattle.client_runner.specs.Lines.{searcher_line}
+use Rattle.client_runner.specs.OutputPieces.{searcher_line}
 use Rattle.client_runner.specs.Views.{searcher_view}
 use Rattle.client_runner.proofs.Joins.{one_more_at}
 use Rattle.client_runner.proofs.output.put_searchers.Goals as goal

@@ -1,6 +1,6 @@
 use Rattle.std.proofs.Common.{take, string_bytes}
 use Rattle.std.specs.List.{flat_map}
-use Rattle.client_runner.specs.Lines.{Grows, searcher_line}
+use Rattle.client_runner.specs.OutputPieces.{Grows, searcher_line}
 use Rattle.client_runner.specs.Views.{searcher_view}
 use Rattle.client_runner.proofs.output.put_searchers.Given as goal
 

@@ -3,7 +3,7 @@ use Rattle.std.proofs.lemmas.List.{take_all}
 use Rattle.std.proofs.lemmas.List.Sums.{fold_more}
 use Rattle.std.proofs.lemmas.Result.{IfOk-weaker}
 use Rattle.run_laws.specs.Lawful.{Lawful}
-use Rattle.run_laws.specs.Requests.{request_as}
+use Rattle.run_laws.specs.Calls.{call_as}
 use Rattle.client_runner.specs.Outputs.{output_view}
 use Rattle.client_runner.specs.Serial.{step, start, output_at, serial_output}
 use Rattle.client_runner.specs.Standings.{HasRoom, standing}
@@ -13,11 +13,8 @@ use Rattle.client_runner.proofs.run.run_script.Goals as goal
 
 pub loop-line-init : goal.loop-line-init
 loop-line-init g c = record {
-  ran = c.new-runner.ensures.start;
-  room = record {
-    id = c.new-runner.ensures.id;
-    room = rw c.new-runner.ensures.start (record { place = omega arith; generation = omega arith; acquired = omega arith; served = omega arith; docs = omega arith });
-  };
+  ran = c.new-runner.ensures;
+  room = rw c.new-runner.ensures (record { place = omega arith; generation = omega arith; acquired = omega arith; served = omega arith; docs = omega arith });
 }
 
 pub loop-line-preserved : goal.loop-line-preserved
@@ -25,19 +22,16 @@ loop-line-preserved g c =
     let lines = c.get-line-items.result.now in
     let i = c.loop-line.line-index in
     let line = c.line-item.result in
-    let here = c.in_ok-step.ensures.served in
+    let here = c.in_ok-step.ensures in
     let one_more : 100000 - i ≡ suc (100000 - (i + 1)) = omega (arith, c.loop-line-test.true, c.requires.lines, ap length c.get-line-items.ensures) in
-    let room : HasRoom (suc (100000 - (i + 1))) (standing c.loop-line.runner) = subst (λ n. HasRoom n (standing c.loop-line.runner)) one_more c.loop-line.invariant.room.room in
+    let room : HasRoom (suc (100000 - (i + 1))) (standing c.loop-line.runner) = subst (λ n. HasRoom n (standing c.loop-line.runner)) one_more c.loop-line.invariant.room in
     let turn = step c.args.config.now in
     record {
       ran =
           here ∙ ap (λ st. turn st line) c.loop-line.invariant.ran
           ∙ ap (turn (fold turn start (take i lines))) c.line-item.is
           ∙ sym (fold_more turn start lines i line c.loop-line-test.true);
-      room = record {
-        id = c.in_ok-step.ensures.id ∙ c.loop-line.invariant.room.id;
-        room = rw here (serve_room c.args.config.now.schema (standing c.loop-line.runner) (request_as 0 line.number line.what) (100000 - (i + 1)) room);
-      };
+      room = rw here (serve_room c.args.config.now (standing c.loop-line.runner) (call_as 0 line.number line.what) (100000 - (i + 1)) room);
     }
 
 pub returns : goal.returns

@@ -15,12 +15,12 @@ pub text_of-requires : goal.text_of-requires
 text_of-requires c =
     ap has_float c.in_ok-value.ensures
     ∙ whole_found (view c.in_ok-docs.docs) c.in_ok-first.found 0
-    (ap has_float c.in_ok-docs.ensures ∙ whole_docs c.args.schema.now All (map arc_value c.deref.result.now))
+    (ap has_float c.in_ok-docs.ensures ∙ whole_docs c.args.config.now.schema All (map arc_value c.deref.result.now))
 
 pub returns : goal.returns
 returns c =
     let firsts = ap (map arc_value) c.deref.ensures.value ∙ c.in_ok-first.ensures.docs in
-    shown_found c.args.schema.now c.args.index.now.served (Term c.args.field (Str c.args.word.now)) (map arc_value c.deref.result.now)
+    shown_found c.args.config.now c.args.index.now.served (Term c.args.field (Str c.args.word.now)) (map arc_value c.deref.result.now)
     c.in_ok-text.text (view c.in_ok-value.value) (view c.in_ok-docs.docs) c.in_ok-first.found c.len.result
     c.in_ok-text.ensures c.in_ok-value.ensures c.in_ok-docs.ensures firsts c.in_ok-first.ensures.found
     (c.len.ensures ∙ c.in_ok-first.first.ok.0 ∙ ap length (sym c.deref.ensures.value) ∙ sym (length-map c.deref.result.now arc_value))

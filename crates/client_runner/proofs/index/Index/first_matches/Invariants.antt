@@ -1,7 +1,7 @@
 use Rattle.std.proofs.Common.{◌≡◌, ◌≤◌, map, length, take, filter, List}
 use Rattle.std.specs.Arc.{arc_value}
 use Rattle.client_runner.specs.declared.index.Slot.{Slot}
-use Rattle.client_runner.specs.Kept.{doc_in, is_hit}
+use Rattle.client_runner.specs.IndexState.{doc_in, is_hit}
 use Rattle.client_runner.proofs.index.Index.first_matches.Given as goal
 
 -- what was found in the slots so far

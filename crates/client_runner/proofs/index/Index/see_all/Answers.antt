@@ -1,5 +1,5 @@
 use Rattle.std.proofs.Common.{◌≡◌, ap, ◌∙◌, length, rules}
-use Rattle.client_runner.specs.Kept.{documents}
+use Rattle.client_runner.specs.IndexState.{documents}
 use Rattle.client_runner.proofs.Seen.{all_seen}
 use Rattle.client_runner.proofs.index.Index.see_all.Goals as goal
 

@@ -5,18 +5,16 @@ use Rattle.std.specs.List.{filter_map, All}
 use Rattle.std.specs.Arc.{arc_value}
 use Rattle.std.specs.declared.alloc.Global.{Global}
 use Rattle.std.specs.declared.sync.Arc.{Arc}
-use Rattle.std.specs.Cmp.Lexicographic.{slice_cmp}
 use Rattle.std.specs.BTreeMap.{BTreeMap, get}
-use Rattle.field_schema.specs.declared.key.Key.{Key}
-use Rattle.field_schema.specs.Keys.{key_cmp}
+use Rattle.field_schema.specs.declared.key.Key.TheVariants as key
+use Rattle.field_schema.specs.Bytes.{bytes_cmp}
 use Rattle.query_tree.specs.declared.query.Query.{Term}
 use Rattle.query_tree.specs.Matches.{top}
-use Rattle.doc_model.specs.Document.{Document, keys_at}
+use Rattle.doc_model.specs.Document.{Document}
 use Rattle.client_runner.specs.declared.index.Slot.{Slot}
 
--- the field of the unique key, the documents that stand, and those that the current searcher sees, in index order
-pub record Kept : Type 0 where
-  pub id : ℕ
+-- the documents that stand, and those that the current searcher sees, in index order
+pub record IndexState : Type 0 where
   pub docs : List Document
   pub served : List Document
 
@@ -38,14 +36,14 @@ module _ {Z : Type 0} where
   abbrev pub documents : List (Option (Arc Document Z)) → List Document
   documents slots = filter_map (option_map arc_value) slots
 
-  -- the unique key, which stands in the field id, of the document in a slot, if there is one
-  abbrev pub key_in : ℕ → List (Option (Arc Document Z)) → ℕ → Option (List Key)
-  key_in id slots i = option_map (λ a. keys_at (arc_value a) id) (option_and_then (λ s. s) (slice_get slots i))
+  -- the unique key of the document in a slot, if there is one
+  abbrev pub id_in : List (Option (Arc Document Z)) → ℕ → Option (List ℕ)
+  id_in slots i = option_map (λ a. (arc_value a).id) (option_and_then (λ s. s) (slice_get slots i))
 
   -- the map leads from each unique key to the slot of the document with it
-  pub record IsPlaced (id : ℕ) (slots : List (Option (Arc Document Z))) (places : BTreeMap (List Key) ℕ) : Type 0 where
-    pub leads : (keys : List Key) (i : ℕ) → get (slice_cmp key_cmp) places keys ≡ Some i → key_in id slots i ≡ Some keys
-    pub found : (keys : List Key) (i : ℕ) → key_in id slots i ≡ Some keys → get (slice_cmp key_cmp) places keys ≡ Some i
+  pub record IsPlaced (slots : List (Option (Arc Document Z))) (places : BTreeMap (List ℕ) ℕ) : Type 0 where
+    pub leads : (id : List ℕ) (i : ℕ) → get bytes_cmp places id ≡ Some i → id_in slots i ≡ Some id
+    pub found : (id : List ℕ) (i : ℕ) → id_in slots i ≡ Some id → get bytes_cmp places id ≡ Some i
 
 -- the documents that stand, each in its slot
 abbrev pub latest : Slot → Option (Arc Document Global)
@@ -64,8 +62,8 @@ pub record Stands (place : Option ℕ) (slots : List Slot) : Type 0 where
   pub is : IfSome place (λ i. IsSomeAnd (slice_get slots i) (λ s. s.successor ≡ None))
 
 -- the map leads to the documents that stand, and the searcher was opened when there were no more slots than now
-pub record IsIndexed (id : ℕ) (slots : List Slot) (places : BTreeMap (List Key) ℕ) (n : ℕ) : Type 0 where
-  pub placed : IsPlaced id (map latest slots) places
+pub record IsIndexed (slots : List Slot) (places : BTreeMap (List ℕ) ℕ) (n : ℕ) : Type 0 where
+  pub placed : IsPlaced (map latest slots) places
   pub within : All (HasSuccessorBelow (length slots)) slots
   pub opened : n ≤ length slots
 
@@ -75,4 +73,4 @@ doc_in s = arc_value s.doc
 
 -- a searcher sees it that was opened when there were so many slots, and it has a word in a field
 abbrev pub is_hit : ℕ → ℕ → List ℕ → Slot → Bool
-is_hit opened field word s = is_seen opened s && top (doc_in s) (Term field (Key.Str word))
+is_hit opened field word s = is_seen opened s && top (doc_in s).values (Term field (key.Str word))

@@ -2,24 +2,22 @@
 use Rattle.std.specs.Prelude.{ℕ, List, [], Bool, true, Result, Ok, Err, codes}
 use Rattle.std.specs.Option.{option_map_or}
 use Rattle.std.specs.Result.{result_map_both}
-use Rattle.field_schema.specs.Schema.{Fields}
 use Rattle.doc_model.specs.ReadDoc.{doc_of}
 use Rattle.search_model.specs.Live.{Change, added}
 use Rattle.search_model.specs.Answer.{Asked}
 use Rattle.search_model.specs.Messages.{doc_message}
-use Rattle.script_form.specs.Requests.{asked_of}
-use Rattle.run_laws.specs.Rows.{Verb, add, delete, query, commit}
-use Rattle.run_laws.specs.Requests.{Request}
+use Rattle.script_form.specs.declared.config.Config.{Config}
+use Rattle.script_form.specs.BodyForms.{asked_of}
+use Rattle.run_laws.specs.Rows.{Verb, add}
+use Rattle.run_laws.specs.Calls.{Call}
 
 -- an add's document; no delete is in the forms yet
-abbrev pub update_of : Fields → Request → Result Change (List ℕ)
-update_of s request = by_verb request.verb
+abbrev pub update_of : Config → Call → Result Change (List ℕ)
+update_of c call = by_verb call.verb
   where
     by_verb : Verb → Result Change (List ℕ)
-    by_verb add = result_map_both added doc_message (doc_of s request.body)
-    by_verb delete = Err (codes "NotBuilt")
-    by_verb query = Err (codes "NotBuilt")
-    by_verb commit = Err (codes "NotBuilt")
+    by_verb add = result_map_both added doc_message (doc_of c.schema call.body)
+    by_verb _ = Err (codes "NotBuilt")
 
 -- whether a commit opens a searcher, and whether its client waits for it
 pub record CommitForm : Type 0 where
@@ -32,5 +30,5 @@ commit_of [] = Ok (record { opens = true; waits = true })
 commit_of _ = Err (codes "NotBuilt")
 
 -- what a query asks for
-abbrev pub query_of : Fields → List ℕ → Result Asked (List ℕ)
-query_of s body = option_map_or Ok (asked_of s body) (Err (codes "NotBuilt"))
+abbrev pub query_of : Config → List ℕ → Result Asked (List ℕ)
+query_of c body = option_map_or Ok (asked_of c.schema body) (Err (codes "NotBuilt"))

@@ -1,0 +1,26 @@
+-- What running an input gives, below the top call.
+use Rattle.std.specs.Prelude.{◌≡◌, ℕ, List, [], Option, Some, ⊤}
+use Rattle.script_form.specs.declared.config.Config.{Config}
+use Rattle.script_form.specs.declared.script.Line.{Line}
+use Rattle.client_runner.specs.declared.rows.Output.{Output}
+use Rattle.solr_cli.specs.declared.status.Status.{Status}
+use Rattle.solr_cli.specs.declared.status.Status.TheVariants as status
+use Rattle.solr_cli.specs.Answering.{IsRefusal}
+use Rattle.solr_cli.specs.Top.{RunsTo}
+
+-- why an input was not run
+abbrev pub IsReadRefusal : List ℕ → Status → Type 0
+IsReadRefusal input status.ReadFault = ⊤
+IsReadRefusal input s = IsRefusal input s
+
+-- a status that refuses an input
+abbrev pub Refuses : Status → Type 0
+Refuses status.Done = ⊥
+Refuses status.Usage = ⊥
+Refuses status.WriteFault = ⊥
+Refuses _ = ⊤
+
+-- what running an input gives: its output and the output's text
+pub record IsRunFrom (input : List ℕ) (left : Option (List ℕ)) (output : Output) : Type 0 where
+  pub ended : left ≡ Some []
+  pub ran : (config : Config) × (script : List Line) × RunsTo input config script output
