@@ -14,7 +14,7 @@ use Rattle.field_schema.specs.declared.key.Key.{Key}
 use Rattle.field_schema.specs.declared.key.Key.TheVariants as key
 use Rattle.field_schema.specs.Schema.{Fields}
 use Rattle.doc_model.specs.Document.{Document}
-use Rattle.doc_model.specs.DocJson.{key_data, keys_data, first_data, field_data, is_shown, doc_members, doc_data}
+use Rattle.doc_model.specs.DocJson.{value_data, values_data, first_data, field_data, is_shown, doc_members, doc_data}
 use Rattle.search_model.specs.Reply.{docs_items, found_object}
 
 or_false : (a b : Bool) → a ≡ false → b ≡ false → (a || b) ≡ false
@@ -41,24 +41,24 @@ whole_number : (z : ℤ) → is_float (of_integer z) ≡ false
 whole_number (pos n) = refl
 whole_number (negsuc n) = refl
 
-whole_key : (k : Key) → has_float (key_data k) ≡ false
+whole_key : (k : Key) → has_float (value_data k) ≡ false
 whole_key (key.Str text) = refl
 whole_key (key.Long z) = whole_number z
 whole_key (key.Bool b) = refl
 whole_key (key.Token text) = refl
 
-whole_keys : (ks : List Key) → items_have_float (keys_data ks) ≡ false
+whole_keys : (ks : List Key) → items_have_float (values_data ks) ≡ false
 whole_keys [] = refl
-whole_keys (k ∷ ks) = or_false (has_float (key_data k)) (items_have_float (keys_data ks)) (whole_key k) (whole_keys ks)
+whole_keys (k ∷ ks) = or_false (has_float (value_data k)) (items_have_float (values_data ks)) (whole_key k) (whole_keys ks)
 
 whole_first : (ks : List Key) → has_float (first_data ks) ≡ false
 whole_first [] = refl
 whole_first (k ∷ ks) = whole_key k
 
 whole_field : (f : Field) (ks : List Key) → has_float (field_data f ks) ≡ false
-whole_field f ks = elim f.multi as (λ b. has_float (cond b (array (keys_data ks)) (first_data ks)) ≡ false) [ true ↦ whole_keys ks | false ↦ whole_first ks ]
+whole_field f ks = elim f.multi as (λ b. has_float (cond b (array (values_data ks)) (first_data ks)) ≡ false) [ true ↦ whole_keys ks | false ↦ whole_first ks ]
 
-whole_members : (l : FieldList) (fs : List Field) (d : Document) → members_have_float (doc_members l fs d) ≡ false
+whole_members : (l : FieldList) (fs : List Field) (d : List (List Key)) → members_have_float (doc_members l fs d) ≡ false
 whole_members l [] d = refl
 whole_members l (f ∷ fs) [] = refl
 whole_members l (f ∷ fs) (ks ∷ d) =
@@ -69,7 +69,7 @@ whole_members l (f ∷ fs) (ks ∷ d) =
 
 pub whole_docs : (s : Fields) (l : FieldList) (ds : List Document) → has_float (docs_items s l ds) ≡ false
 whole_docs s l [] = refl
-whole_docs s l (d ∷ ds) = or_false (members_have_float (doc_members l s.list d)) (items_have_float (items_of (map (doc_data s l) ds))) (whole_members l s.list d) (whole_docs s l ds)
+whole_docs s l (d ∷ ds) = or_false (members_have_float (doc_members l s.list d.values)) (items_have_float (items_of (map (doc_data s l) ds))) (whole_members l s.list d.values) (whole_docs s l ds)
 
 pub whole_found : (docs : Data) (n start : ℕ) → has_float docs ≡ false → has_float (found_object docs n start) ≡ false
 whole_found docs n start h = rw h

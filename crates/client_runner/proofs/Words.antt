@@ -5,7 +5,7 @@ use Rattle.field_schema.specs.declared.key.Key.{Key}
 use Rattle.field_schema.specs.declared.key.Key.TheVariants as key
 use Rattle.field_schema.specs.Keys.{key_eq}
 use Rattle.field_schema.specs.Tokens.{tokens}
-use Rattle.query_tree.specs.Keys.{keys_of_value}
+use Rattle.query_tree.specs.KeysOfDocs.{keys_of_value}
 
 or_assoc : (a b c : Bool) → ((a || b) || c) ≡ (a || (b || c))
 or_assoc true b c = refl

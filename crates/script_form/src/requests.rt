@@ -13,7 +13,7 @@ use serde_json::{Map, Value};
 use std::alloc::Global;
 
 // Whether a text is an object of texts that is a document of the schema.
-#[tactic(auto, unfolding(crate::specs::Requests::is_add_body))]
+#[tactic(auto, unfolding(crate::specs::BodyForms::is_add_body))]
 pub(crate) fn is_add(alloc: Global, schema: &Schema, body: &str) -> Result<bool, NoMemory>
     ensures { IfOk result (λ b. b ≡ is_add_body schema.now body.now) }
 {
@@ -67,7 +67,7 @@ pub(crate) fn is_query(schema: &Schema, body: &str) -> bool
 
 /// The field and the word that the body of a query asks for; None exactly where the body is not `q=` with a
 /// field's name, a colon and a word. It costs the body's length.
-#[tactic(auto, unfolding(crate::specs::Requests::asked_of))]
+#[tactic(auto, unfolding(crate::specs::BodyForms::asked_of))]
 pub fn query_term<'a>(schema: &Schema, body: &'a str) -> Option<(FieldNo, &'a str)>
     ensures { option_map (λ t. first_ten (Term t.0 (Key.Str t.1.now))) result ≡ asked_of schema.now body.now }
 {
