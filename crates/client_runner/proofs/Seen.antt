@@ -20,7 +20,7 @@ use Rattle.query_tree.specs.declared.query.Query.{Term}
 use Rattle.query_tree.specs.Matches.{top}
 use Rattle.doc_model.specs.Document.{Document}
 use Rattle.client_runner.specs.declared.index.Slot.{Slot}
-use Rattle.client_runner.specs.IndexState.{HasSuccessorBelow, IsPlaced, Stands, doc_in, documents, is_hit, is_latest, is_seen, id_in, latest, seen}
+use Rattle.client_runner.specs.IndexState.{HasSuccessorBelow, IsPlaced, Stands, doc_in, documents, is_hit, is_latest, is_seen, id_in, id_of, latest, seen}
 
 -- ---- the slot of a document that loses its place
 
@@ -62,7 +62,7 @@ all_seen n slots at_end within =
 
 -- ---- the map leads to documents that stand
 
-latest_at : (o : Option ℕ) (doc : Arc Document Global) (id : List ℕ) → option_map (λ a. (arc_value a).id) (cond (is_none o) (Some doc) None) ≡ Some id → o ≡ None
+latest_at : (o : Option ℕ) (doc : Arc Document Global) (id : List ℕ) → option_map id_of (cond (is_none o) (Some doc) None) ≡ Some id → o ≡ None
 latest_at None doc id h = refl
 latest_at (Some j) doc id h = absurd (none-some id h)
 

@@ -13,7 +13,7 @@ use Rattle.field_schema.specs.Bytes.{bytes_eq, bytes_cmp}
 use Rattle.field_schema.specs.Laws.{bytes_eq-Decides, bytes_eq-same}
 use Rattle.doc_model.specs.Document.{Document}
 use Rattle.search_model.specs.Live.{has_id, after, added}
-use Rattle.client_runner.specs.IndexState.{emptied, documents, id_in, IsPlaced}
+use Rattle.client_runner.specs.IndexState.{emptied, documents, id_in, id_of, IsPlaced}
 
 -- ---- lists of id
 
@@ -53,14 +53,14 @@ module _ {Z : Type 0} where
   id_in-push (x ∷ slots) s zero id h = h
   id_in-push (x ∷ slots) s (suc i) id h = id_in-push slots s i id h
 
-  pub id_in-last : (slots : List (Option (Arc Document Z))) (a : Arc Document Z) (n : ℕ) → n ≡ length slots → id_in (slots ++ Some a ∷ []) n ≡ Some (arc_value a).id
+  pub id_in-last : (slots : List (Option (Arc Document Z))) (a : Arc Document Z) (n : ℕ) → n ≡ length slots → id_in (slots ++ Some a ∷ []) n ≡ Some (id_of a)
   id_in-last [] a zero at_end = refl
   id_in-last [] a (suc n) at_end = absurd (omega arith)
   id_in-last (x ∷ slots) a zero at_end = absurd (omega arith)
   id_in-last (x ∷ slots) a (suc n) at_end = id_in-last slots a n (omega arith)
 
   pub id_in-pushed : (slots : List (Option (Arc Document Z))) (a : Arc Document Z) (i : ℕ) (id : List ℕ) → id_in (slots ++ Some a ∷ []) i ≡ Some id
-      → (id_in slots i ≡ Some id) ⊎ ((i ≡ length slots) × ((arc_value a).id ≡ id))
+      → (id_in slots i ≡ Some id) ⊎ ((i ≡ length slots) × (id_of a ≡ id))
   id_in-pushed [] a zero id h = inr (refl, same_Some _ _ h)
   id_in-pushed [] a (suc i) id h = absurd (none-some id h)
   id_in-pushed (x ∷ slots) a zero id h = inl h
@@ -100,7 +100,7 @@ module _ {Z : Type 0} where
   none_dropped id [] apart = refl
   none_dropped id (None ∷ slots) apart = none_dropped id slots (λ i. apart (suc i))
   none_dropped id (Some a ∷ slots) apart =
-      let differs : bytes_eq id (arc_value a).id ≡ false = other_id id (arc_value a).id (λ e. apart 0 (ap Some (sym e))) in
+      let differs : bytes_eq id (id_of a) ≡ false = other_id id (id_of a) (λ e. apart 0 (ap Some (sym e))) in
       rw differs (ap (λ ds. arc_value a ∷ ds) (none_dropped id slots (λ i. apart (suc i))))
 
   pub one_dropped : (id : List ℕ) (slots : List (Option (Arc Document Z))) (p : ℕ) → id_in slots p ≡ Some id → ((i : ℕ) → id_in slots i ≡ Some id → i ≡ p)
@@ -108,12 +108,12 @@ module _ {Z : Type 0} where
   one_dropped id [] p here only = absurd (none-some id here)
   one_dropped id (None ∷ slots) zero here only = absurd (none-some id here)
   one_dropped id (Some a ∷ slots) zero here only =
-      let same : bytes_eq id (arc_value a).id ≡ true = equal_id id (arc_value a).id (sym (same_Some _ _ here)) in
+      let same : bytes_eq id (id_of a) ≡ true = equal_id id (id_of a) (sym (same_Some _ _ here)) in
       rw same (none_dropped id slots (λ i h. let e : suc i ≡ 0 = only (suc i) h in absurd (omega arith)))
   one_dropped id (None ∷ slots) (suc p) here only =
       one_dropped id slots p here (λ i h. let e : suc i ≡ suc p = only (suc i) h in omega arith)
   one_dropped id (Some a ∷ slots) (suc p) here only =
-      let differs : bytes_eq id (arc_value a).id ≡ false = other_id id (arc_value a).id (λ s. let e : 0 ≡ suc p = only 0 (ap Some (sym s)) in absurd (omega arith)) in
+      let differs : bytes_eq id (id_of a) ≡ false = other_id id (id_of a) (λ s. let e : 0 ≡ suc p = only 0 (ap Some (sym s)) in absurd (omega arith)) in
       rw differs (ap (λ ds. arc_value a ∷ ds) (one_dropped id slots p here (λ i h. let e : suc i ≡ suc p = only (suc i) h in omega arith)))
 
   -- the slots ys are those of slots but for the document with these id, whose slot is empty
@@ -146,7 +146,7 @@ module _ {Z : Type 0} where
   -- ---- the map and the slots after a document is added
 
   pub IsPlaced-put : (id : List ℕ) (slots ys : List (Option (Arc Document Z))) (a : Arc Document Z) (m n : BTreeMap (List ℕ) ℕ) (last : ℕ)
-      → IsPlaced slots m → IsWithout id slots ys → id ≡ (arc_value a).id → last ≡ length slots → Updates bytes_cmp m n id (Some last)
+      → IsPlaced slots m → IsWithout id slots ys → id ≡ id_of a → last ≡ length slots → Updates bytes_cmp m n id (Some last)
       → IsPlaced (ys ++ Some a ∷ []) n
   IsPlaced-put id slots ys a m n last placed without of_doc at_end updates = record { leads = leads; found = found }
     where
@@ -176,7 +176,7 @@ module _ {Z : Type 0} where
   emptied-pushed slots None s within = refl
   emptied-pushed slots (Some p) s within = set-append_left slots (s ∷ []) p None (within p refl)
 
-  pub documents-put : (id : List ℕ) (slots ys : List (Option (Arc Document Z))) (a : Arc Document Z) → IsWithout id slots ys → id ≡ (arc_value a).id
+  pub documents-put : (id : List ℕ) (slots ys : List (Option (Arc Document Z))) (a : Arc Document Z) → IsWithout id slots ys → id ≡ id_of a
       → documents (ys ++ Some a ∷ []) ≡ after (documents slots) (added (arc_value a))
   documents-put id slots ys a without of_doc =
       documents-push ys a ∙ ap (λ ds. ds ++ arc_value a ∷ []) (without.docs ∙ ap (λ k. filter (λ e. not (has_id k e)) (documents slots)) of_doc)
@@ -187,23 +187,23 @@ module _ {Z : Type 0} where
 
   -- a document that stands further on has id that none before it has
   pub documents-distinct : (slots : List (Option (Arc Document Z))) (m : BTreeMap (List ℕ) ℕ) (i : ℕ) (a : Arc Document Z) → IsPlaced slots m → slice_get slots i ≡ Some (Some a)
-      → documents (take i slots) ≡ filter (λ e. not (has_id (arc_value a).id e)) (documents (take i slots))
-  documents-distinct slots m i a placed here = none_dropped (arc_value a).id (take i slots) (λ j h. let e : i ≡ j = same j (before slots i j h) in let below : j < i = within slots i j h in absurd (omega arith))
+      → documents (take i slots) ≡ filter (λ e. not (has_id (id_of a) e)) (documents (take i slots))
+  documents-distinct slots m i a placed here = none_dropped (id_of a) (take i slots) (λ j h. let e : i ≡ j = same j (before slots i j h) in let below : j < i = within slots i j h in absurd (omega arith))
     where
-      at_i : (slots' : List (Option (Arc Document Z))) (i' : ℕ) → slice_get slots' i' ≡ Some (Some a) → id_in slots' i' ≡ Some (arc_value a).id
+      at_i : (slots' : List (Option (Arc Document Z))) (i' : ℕ) → slice_get slots' i' ≡ Some (Some a) → id_in slots' i' ≡ Some (id_of a)
       at_i slots' i' h = rw h refl
 
-      same : (j : ℕ) → id_in slots j ≡ Some (arc_value a).id → i ≡ j
-      same j h = same_Some i j (sym (placed.found (arc_value a).id i (at_i slots i here)) ∙ placed.found (arc_value a).id j h)
+      same : (j : ℕ) → id_in slots j ≡ Some (id_of a) → i ≡ j
+      same j h = same_Some i j (sym (placed.found (id_of a) i (at_i slots i here)) ∙ placed.found (id_of a) j h)
 
-      before : (slots' : List (Option (Arc Document Z))) (i' j : ℕ) → id_in (take i' slots') j ≡ Some (arc_value a).id → id_in slots' j ≡ Some (arc_value a).id
+      before : (slots' : List (Option (Arc Document Z))) (i' j : ℕ) → id_in (take i' slots') j ≡ Some (id_of a) → id_in slots' j ≡ Some (id_of a)
       before [] zero j h = h
       before [] (suc i') j h = h
       before (x ∷ xs) zero j h = absurd (none-some _ h)
       before (x ∷ xs) (suc i') zero h = h
       before (x ∷ xs) (suc i') (suc j) h = before xs i' j h
 
-      within : (slots' : List (Option (Arc Document Z))) (i' j : ℕ) → id_in (take i' slots') j ≡ Some (arc_value a).id → j < i'
+      within : (slots' : List (Option (Arc Document Z))) (i' j : ℕ) → id_in (take i' slots') j ≡ Some (id_of a) → j < i'
       within [] zero j h = absurd (none-some _ h)
       within [] (suc i') j h = absurd (none-some _ h)
       within (x ∷ xs) zero j h = absurd (none-some _ h)

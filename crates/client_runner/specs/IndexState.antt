@@ -36,9 +36,12 @@ module _ {Z : Type 0} where
   abbrev pub documents : List (Option (Arc Document Z)) → List Document
   documents slots = filter_map (option_map arc_value) slots
 
+  abbrev pub id_of : Arc Document Z → List ℕ
+  id_of a = let d : Document = arc_value a in d.id
+
   -- the unique key of the document in a slot, if there is one
   abbrev pub id_in : List (Option (Arc Document Z)) → ℕ → Option (List ℕ)
-  id_in slots i = option_map (λ a. (arc_value a).id) (option_and_then (λ s. s) (slice_get slots i))
+  id_in slots i = option_map id_of (option_and_then (λ s. s) (slice_get slots i))
 
   -- the map leads from each unique key to the slot of the document with it
   pub record IsPlaced (slots : List (Option (Arc Document Z))) (places : BTreeMap (List ℕ) ℕ) : Type 0 where

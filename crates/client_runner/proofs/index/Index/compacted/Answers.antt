@@ -20,10 +20,10 @@ loop-slot-preserved c =
     subst (λ s. IsPlaced (map latest s) c.self.inside.places) (sym c.deref-slot-items.ensures.value) c.self.invariant.placed in
     elim c.if-is_latest.branch [
       | then-is_latest+in_ok-try_clone+in_ok-put w ↦
-        ap (λ p. p.docs) w.compacted-is
-            ∙ compacted-more lives c.self.inside.places i (latest slot) slot.doc (arc_value w.in_ok-try_clone.field-0) c.loop-slot.compacted.docs w.put.new.self.docs
-            placed within item (latest_is slot true (sym c.is_latest.ensures ∙ w.if-is_latest.true)) w.in_ok-try_clone.ensures before
-            w.in_ok-put.ensures.ok
+          ap (λ p. p.docs) w.compacted-is
+          ∙ compacted-more lives c.self.inside.places i (latest slot) slot.doc (arc_value w.in_ok-try_clone.field-0) c.loop-slot.compacted.docs w.put.new.self.docs
+          placed within item (latest_is slot true (sym c.is_latest.ensures ∙ w.if-is_latest.true)) w.in_ok-try_clone.ensures before
+          w.in_ok-put.ensures.ok
       | else-is_latest w ↦
-        ap (λ p. p.docs) w.compacted-is ∙ before ∙ sym (documents-more_none lives i (latest slot) within item (latest_is slot false (sym c.is_latest.ensures ∙ w.if-is_latest.false)))
+          ap (λ p. p.docs) w.compacted-is ∙ before ∙ sym (documents-more_none lives i (latest slot) within item (latest_is slot false (sym c.is_latest.ensures ∙ w.if-is_latest.false)))
     ]

@@ -3,14 +3,14 @@ use Rattle.std.specs.Arc.{arc_value}
 use Rattle.std.specs.List.{All}
 use Rattle.std.proofs.lemmas.List.{map-append, length-append, length-map}
 use Rattle.search_model.specs.Live.{added, after}
-use Rattle.client_runner.specs.IndexState.{emptied, documents, latest, HasSuccessorBelow, IsPlaced}
+use Rattle.client_runner.specs.IndexState.{emptied, documents, latest, HasSuccessorBelow, IsPlaced, id_of}
 use Rattle.client_runner.proofs.Slots.{IsPlaced-put, IsWithout, emptied-IsWithout, emptied-pushed, documents-put, older-within}
 use Rattle.client_runner.proofs.Seen.{older_stands, within-pushed}
 use Rattle.client_runner.proofs.index.Index.put.Goals as goal
 
 -- ---- what holds once the new document is in its slot, and the map leads to it
 
-key_of_doc : (c : goal.After-replace) → c.in_ok-key.key ≡ (arc_value c.args.doc).id
+key_of_doc : (c : goal.After-replace) → c.in_ok-key.key ≡ id_of c.args.doc
 key_of_doc c = c.in_ok-key.ensures ∙ c.id.ensures ∙ ap (λ d. d.id) c.deref.ensures
 
 older_gone : (c : goal.After-replace) → IsWithout c.in_ok-key.key (map latest c.self.inside.slots.items) (emptied c.in-Ok.older (map latest c.self.inside.slots.items))
