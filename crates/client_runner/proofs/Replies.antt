@@ -10,7 +10,7 @@ use Rattle.query_tree.specs.Matches.{top}
 use Rattle.search_model.specs.Answer.{matching}
 use Rattle.search_model.specs.Reply.{docs_items, found_object}
 use Rattle.script_form.specs.declared.config.Config.{Config}
-use Rattle.script_form.specs.BodyForms.{first_ten}
+use Rattle.search_model.specs.TermQuery.{first_ten}
 use Rattle.client_runner.specs.Standings.{Shown, found_first_ten}
 use Rattle.client_runner.proofs.Filters.{and-true, filter-same}
 

@@ -4,7 +4,7 @@ use Rattle.script_form.specs.declared.config.Config.{Config}
 use Rattle.doc_model.specs.Document.{Document}
 use Rattle.query_tree.specs.declared.query.Query.{Query}
 use Rattle.search_model.specs.Answer.{answer}
-use Rattle.script_form.specs.BodyForms.{first_ten}
+use Rattle.search_model.specs.TermQuery.{first_ten}
 use Rattle.search_model.specs.Reply.{Outcome, found, reply_text, code_of, found_of, docs_of}
 use Rattle.run_laws.specs.Rows as plain
 use Rattle.run_laws.specs.Calls.{Call}

@@ -11,8 +11,10 @@ mod rows;
 mod run;
 mod runner;
 mod search;
+mod term_query;
 
 pub use laws::every_script_has_a_lawful_output;
 pub use output::output_text;
 pub use rows::{Output, RequestRow, RequestRows, SearcherList, SearcherRow, Verb};
 pub use run::run_script;
+pub use term_query::query_term;

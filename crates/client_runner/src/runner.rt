@@ -16,9 +16,10 @@ use crate::reply::{
     accepted_value, doc_message_text, docs_value, found_value, refused_value, text_of,
 };
 use crate::rows::{RequestRow, SearcherRow, Verb};
+use crate::term_query::query_term;
 use doc_model::Doc;
 use field_schema::{FieldNo, NoMemory, Text};
-use script_form::{Config, query_term};
+use script_form::Config;
 use std::alloc::Global;
 
 /// A request as its line names it.

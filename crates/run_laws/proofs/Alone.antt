@@ -8,7 +8,7 @@ use Rattle.std.specs.Prelude.{slice_index}
 use Rattle.serde_json.proofs.OnLiterals.{serde_json_on_literals}
 use Rattle.search_model.specs.Answer.{answer}
 use Rattle.search_model.specs.Reply.{accepted, too_many, no_memory, found, reply_text}
-use Rattle.script_form.specs.BodyForms.{asked_of}
+use Rattle.search_model.specs.TermQuery.{asked_of}
 use Rattle.run_laws.specs.Rows.{add, query, commit, RequestRow}
 use Rattle.run_laws.specs.Places.{view_of, warming}
 use Rattle.run_laws.specs.Lawful.{Shows}

@@ -2,7 +2,7 @@
 use Rattle.std.proofs.Common.{◌≡◌, [], ◌∷◌, Some, None, refl, inl, inr, arith, rules}
 use Rattle.std.specs.Fmt.{digits}
 use Rattle.serde_json.proofs.OnLiterals.{serde_json_on_literals}
-use Rattle.script_form.specs.BodyForms.{asked_of}
+use Rattle.search_model.specs.TermQuery.{asked_of}
 use Rattle.search_model.specs.Reply.{accepted, too_many, no_memory}
 use Rattle.run_laws.specs.Rows.{add, query, commit}
 use Rattle.run_laws.specs.Lawful.{Lawful}

@@ -8,7 +8,7 @@ use Rattle.query_tree.specs.Matches.{top}
 use Rattle.query_tree.proofs.Matching.{top_Term}
 use Rattle.search_model.specs.Reply.{Outcome, found, accepted, found_of}
 use Rattle.search_model.specs.Answer.{Answer, answer}
-use Rattle.script_form.specs.BodyForms.{asked_of}
+use Rattle.search_model.specs.TermQuery.{asked_of}
 use Rattle.script_form.specs.declared.config.Config.{Config}
 use Rattle.script_form.specs.declared.script.Line.{Line}
 use Rattle.run_laws.specs.Rows.{Verb, add, query, commit, Output}

@@ -7,7 +7,7 @@ use Rattle.search_model.specs.Live.{Change, added}
 use Rattle.search_model.specs.Answer.{Asked}
 use Rattle.search_model.specs.Messages.{doc_message}
 use Rattle.script_form.specs.declared.config.Config.{Config}
-use Rattle.script_form.specs.BodyForms.{asked_of}
+use Rattle.search_model.specs.TermQuery.{asked_of}
 use Rattle.run_laws.specs.Rows.{Verb, add}
 use Rattle.run_laws.specs.Calls.{Call}
 

@@ -8,7 +8,7 @@ use Rattle.query_tree.specs.declared.query.Query.{Term}
 use Rattle.search_model.specs.Answer.{Asked, answer}
 use Rattle.search_model.specs.Reply.{Outcome, found, accepted, too_many, no_memory, reply_text, code_of, found_of, docs_of}
 use Rattle.script_form.specs.ReadConfig.{default_config}
-use Rattle.script_form.specs.BodyForms.{first_ten}
+use Rattle.search_model.specs.TermQuery.{first_ten}
 use Rattle.script_form.specs.declared.config.Config.{Config}
 use Rattle.script_form.specs.declared.script.Line.{Line}
 use Rattle.script_form.specs.declared.script.What.{What}
