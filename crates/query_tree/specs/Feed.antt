@@ -5,35 +5,24 @@ use Rattle.std.specs.Hash as fed
 use Rattle.field_schema.specs.declared.key.Key.{Key}
 use Rattle.field_schema.specs.contracts.key.KeyHash.TheImpl as key_hash
 use Rattle.query_tree.specs.declared.query.End.{End}
-use Rattle.query_tree.specs.declared.query.End.TheVariants.{Open, At}
+use Rattle.query_tree.specs.contracts.query.EndHash.TheImpl as end_hash
 use Rattle.query_tree.specs.declared.query.Query.{Query, fold-Query}
 use Rattle.query_tree.specs.declared.query.Query.TheOpen.{Query-F}
 use Rattle.query_tree.specs.declared.query.Query.TheOpen as node
-use Rattle.query_tree.specs.declared.sort.SortBy.{SortBy}
-use Rattle.query_tree.specs.declared.sort.SortBy.TheVariants.{Field, DocId}
+use Rattle.query_tree.specs.contracts.sort.SortKeyHash.TheImpl as sort_key_hash
 use Rattle.query_tree.specs.declared.sort.SortKey.{SortKey}
-
--- whether a field is compared, then which
-abbrev pub sort_by_fed : SortBy → HashWrites
-sort_by_fed (Field f) = fed.u8 0 ++ fed.u32 f
-sort_by_fed DocId = fed.u8 1
-
--- what is compared, then the direction
-abbrev pub sort_key_fed : SortKey → HashWrites
-sort_key_fed k = sort_by_fed k.by ++ fed.bool k.down
 
 -- the number of keys, then each key
 abbrev pub sort_fed : List SortKey → HashWrites
-sort_fed = fed.slice sort_key_fed
+sort_fed = fed.slice (sort_key_hash.ghosts).hash_input
 
 -- what a key feeds, as the derived impl has it
 abbrev pub key_fed : Key → HashWrites
 key_fed k = (key_hash.ghosts).hash_input k
 
--- the kind, then the contents
+-- what an end feeds, as the derived impl has it
 abbrev pub end_fed : End → HashWrites
-end_fed Open = fed.u8 0
-end_fed (At k inclusive) = fed.u8 1 ++ key_fed k ++ fed.bool inclusive
+end_fed e = (end_hash.ghosts).hash_input e
 
 -- the kind, then the field, then the contents, given what the parts feed
 abbrev pub layer_fed : Query-F HashWrites → HashWrites

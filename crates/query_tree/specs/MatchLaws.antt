@@ -73,9 +73,8 @@ PointRangeIsTerm = (doc : List (List Key)) (field : ℕ) (k : Key) →
 -- a string or a token
 abbrev pub has_text : Key → Bool
 has_text (key.Str text) = true
-has_text (key.Long z) = false
-has_text (key.Bool b) = false
 has_text (key.Token text) = true
+has_text k = false
 
 -- the prefix of no characters matches each document with a string or a token in the field, and none by its numbers
 abbrev pub EmptyPrefixMatchesTexts : Type 0

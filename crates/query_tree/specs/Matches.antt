@@ -1,6 +1,6 @@
 -- When a document matches a query. A document is the list of each field's values.
-use Rattle.std.specs.Prelude.{ℕ, List, [], ◌∷◌, Bool, true, false, not, ◌&&◌, ◌||◌, ◌==◌}
-use Rattle.std.specs.List.{list_all, list_any}
+use Rattle.std.specs.Prelude.{ℕ, List, [], ◌∷◌, Bool, true, false, not, ◌&&◌, ◌||◌, nat_eq}
+use Rattle.std.specs.List.{list_all, list_any, starts_with}
 use Rattle.std.specs.Ordering.{is_lt, is_eq}
 use Rattle.field_schema.specs.declared.key.Key.{Key}
 use Rattle.field_schema.specs.declared.key.Key.TheVariants as key
@@ -15,36 +15,21 @@ use Rattle.query_tree.specs.declared.query.Query.TheOpen as node
 use Rattle.query_tree.specs.KeysOfDocs.{keys_in}
 use Rattle.field_schema.specs.Values.{values_at}
 
--- the tokens begin with the words
-abbrev pub begins_with : List (List ℕ) → List (List ℕ) → Bool
-begins_with [] ts = true
-begins_with (w ∷ ws) [] = false
-begins_with (w ∷ ws) (t ∷ ts) = bytes_eq w t && begins_with ws ts
-
 -- the words stand in turn somewhere among the tokens
 abbrev pub stand_in : List (List ℕ) → List (List ℕ) → Bool
-stand_in ws [] = begins_with ws []
-stand_in ws (t ∷ ts) = begins_with ws (t ∷ ts) || stand_in ws ts
+stand_in ws [] = starts_with bytes_eq [] ws
+stand_in ws (t ∷ ts) = starts_with bytes_eq (t ∷ ts) ws || stand_in ws ts
 
 -- the words stand in turn inside one text
 abbrev pub has_words : List (List ℕ) → Key → Bool
-has_words ws (key.Str text) = false
-has_words ws (key.Long z) = false
-has_words ws (key.Bool b) = false
 has_words ws (key.Token text) = stand_in ws (tokens text)
-
--- a text that begins with p
-abbrev pub begins : List ℕ → List ℕ → Bool
-begins [] text = true
-begins (c ∷ p) [] = false
-begins (c ∷ p) (x ∷ text) = c == x && begins p text
+has_words ws k = false
 
 -- a string or a token that begins with p
 abbrev pub has_prefix : List ℕ → Key → Bool
-has_prefix p (key.Str text) = begins p text
-has_prefix p (key.Long z) = false
-has_prefix p (key.Bool b) = false
-has_prefix p (key.Token text) = begins p text
+has_prefix p (key.Str text) = starts_with nat_eq text p
+has_prefix p (key.Token text) = starts_with nat_eq text p
+has_prefix p k = false
 
 -- k lies above the lower end
 abbrev pub is_above : End → Key → Bool
@@ -88,13 +73,8 @@ is_negative must should not_ = is_empty must && is_empty should && not (is_empty
 
 -- at the top level a purely negative query matches all documents that no part matches
 abbrev pub top_says : List (List Key) → Query → Query-F Query → Bool
-top_says doc q node.All = matches doc q
-top_says doc q (node.Exists field) = matches doc q
-top_says doc q (node.Term field k) = matches doc q
-top_says doc q (node.Words field ws) = matches doc q
-top_says doc q (node.Prefix field p) = matches doc q
-top_says doc q (node.Range field a b) = matches doc q
 top_says doc q (node.Bool must should not_) = matches doc q || (is_negative must should not_ && not (list_any (matches doc) not_))
+top_says doc q layer = matches doc q
 
 -- the document matches the query
 abbrev pub top : List (List Key) → Query → Bool

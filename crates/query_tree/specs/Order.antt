@@ -1,33 +1,24 @@
 -- The order of ends, sorts and queries. Values that the order does not tell apart are equal.
 use Rattle.std.specs.Prelude.{ℕ, List, [], ◌∷◌, Bool}
-use Rattle.std.specs.Ordering.{nat_cmp, bool_cmp, ordering_then, is_eq}
+use Rattle.std.specs.Ordering.{nat_cmp, ordering_then, is_eq}
 use Rattle.std.specs.declared.cmp.Ordering.{Ordering}
-use Rattle.std.specs.declared.cmp.Ordering.TheVariants.{Less, Equal, Greater}
 use Rattle.std.specs.Cmp.Lexicographic.{slice_cmp}
 use Rattle.field_schema.specs.declared.key.Key.{Key}
 use Rattle.field_schema.specs.Bytes.{texts_cmp}
 use Rattle.field_schema.specs.Keys.{key_cmp}
 use Rattle.query_tree.specs.declared.query.End.{End}
-use Rattle.query_tree.specs.declared.query.End.TheVariants.{Open, At}
+use Rattle.query_tree.specs.contracts.query.EndOrd.TheImpl as end_ord
 use Rattle.query_tree.specs.declared.query.Query.{Query, fold-Query, out-Query}
 use Rattle.query_tree.specs.declared.query.Query.TheOpen.{Query-F}
 use Rattle.query_tree.specs.declared.query.Query.TheOpen as node
-use Rattle.query_tree.specs.declared.sort.SortBy.{SortBy}
-use Rattle.query_tree.specs.declared.sort.SortBy.TheVariants.{Field, DocId}
+use Rattle.query_tree.specs.contracts.sort.SortKeyOrd.TheImpl as sort_key_ord
 use Rattle.query_tree.specs.declared.sort.SortKey.{SortKey}
 
 -- ---- sorts
 
--- fields by their place, and the index order last
-abbrev pub sort_by_cmp : SortBy → SortBy → Ordering
-sort_by_cmp (Field f) (Field g) = nat_cmp f g
-sort_by_cmp (Field f) DocId = Less
-sort_by_cmp DocId (Field g) = Greater
-sort_by_cmp DocId DocId = Equal
-
--- what is compared, then the direction
+-- the order of keys of sorts: what is compared, fields by their place and the index order last; then the direction
 abbrev pub sort_key_cmp : SortKey → SortKey → Ordering
-sort_key_cmp a b = ordering_then (sort_by_cmp a.by b.by) (bool_cmp a.down b.down)
+sort_key_cmp = (sort_key_ord.ghosts).cmp
 
 -- the first keys that differ
 abbrev pub sort_cmp : List SortKey → List SortKey → Ordering
@@ -37,10 +28,7 @@ sort_cmp = slice_cmp sort_key_cmp
 
 -- an open end first, then by key, then the end that leaves out its key
 abbrev pub end_cmp : End → End → Ordering
-end_cmp Open Open = Equal
-end_cmp Open (At l j) = Less
-end_cmp (At k i) Open = Greater
-end_cmp (At k i) (At l j) = ordering_then (key_cmp k l) (bool_cmp i j)
+end_cmp = (end_ord.ghosts).cmp
 
 -- ---- queries
 
@@ -57,53 +45,33 @@ module _ {A : Type 0} where
 
   -- the field, or 0 where there is none
   abbrev pub field_of : Query-F A → ℕ
-  field_of node.All = 0
   field_of (node.Exists field) = field
   field_of (node.Term field k) = field
   field_of (node.Words field ws) = field
   field_of (node.Prefix field p) = field
   field_of (node.Range field a b) = field
-  field_of (node.Bool must should not_) = 0
+  field_of x = 0
 
   -- the key of a Term
   abbrev pub keys_of : Query-F A → List Key
-  keys_of node.All = []
-  keys_of (node.Exists field) = []
   keys_of (node.Term field k) = k ∷ []
-  keys_of (node.Words field ws) = []
-  keys_of (node.Prefix field p) = []
-  keys_of (node.Range field a b) = []
-  keys_of (node.Bool must should not_) = []
+  keys_of x = []
 
-  -- the words of a phrase, or the text of a prefix
+  -- the texts of Words and of a Prefix
   abbrev pub texts_of : Query-F A → List (List ℕ)
-  texts_of node.All = []
-  texts_of (node.Exists field) = []
-  texts_of (node.Term field k) = []
   texts_of (node.Words field ws) = ws
   texts_of (node.Prefix field p) = p ∷ []
-  texts_of (node.Range field a b) = []
-  texts_of (node.Bool must should not_) = []
+  texts_of x = []
 
   -- the ends of a Range
   abbrev pub ends_of : Query-F A → List End
-  ends_of node.All = []
-  ends_of (node.Exists field) = []
-  ends_of (node.Term field k) = []
-  ends_of (node.Words field ws) = []
-  ends_of (node.Prefix field p) = []
   ends_of (node.Range field a b) = a ∷ b ∷ []
-  ends_of (node.Bool must should not_) = []
+  ends_of x = []
 
   -- the required, optional and prohibited parts of a Boolean query
   abbrev pub parts_of : Query-F A → List (List A)
-  parts_of node.All = []
-  parts_of (node.Exists field) = []
-  parts_of (node.Term field k) = []
-  parts_of (node.Words field ws) = []
-  parts_of (node.Prefix field p) = []
-  parts_of (node.Range field a b) = []
   parts_of (node.Bool must should not_) = must ∷ should ∷ not_ ∷ []
+  parts_of x = []
 
 -- by kind, then by field, then by contents, given the order of the parts
 abbrev pub layer_cmp : {A B : Type 0} → (A → B → Ordering) → Query-F A → Query-F B → Ordering
@@ -125,21 +93,9 @@ queries_cmp = slice_cmp query_cmp
 
 -- ---- equality
 
--- things to sort by that the order does not tell apart
-abbrev pub sort_by_eq : SortBy → SortBy → Bool
-sort_by_eq a b = is_eq (sort_by_cmp a b)
-
--- keys of a sort that the order does not tell apart
-abbrev pub sort_key_eq : SortKey → SortKey → Bool
-sort_key_eq a b = is_eq (sort_key_cmp a b)
-
 -- sorts that the order does not tell apart
 abbrev pub sort_eq : List SortKey → List SortKey → Bool
 sort_eq a b = is_eq (sort_cmp a b)
-
--- ends that the order does not tell apart
-abbrev pub end_eq : End → End → Bool
-end_eq a b = is_eq (end_cmp a b)
 
 -- queries that the order does not tell apart
 abbrev pub query_eq : Query → Query → Bool

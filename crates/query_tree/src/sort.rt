@@ -1,9 +1,9 @@
 ghost use Rattle.std.specs.Prelude.{◌≡◌, IfOk, Some, refl};
 ghost use Rattle.std.proofs.Common.{ap};
 ghost use Rattle.std.specs.Cmp.{eq_by_cmp_equiv, partial_equiv_from_equiv, po};
-ghost use Rattle.query_tree.specs.Order.{sort_by_cmp, sort_by_eq, sort_key_cmp, sort_key_eq, sort_cmp, sort_eq};
-ghost use Rattle.query_tree.specs.OrderLaws.{sort_by_cmp_total, sort_key_cmp_total, sort_cmp_total, sort_by_eq-same, sort_key_eq-same, sort_eq-same};
-ghost use Rattle.query_tree.specs.Feed.{sort_by_fed, sort_key_fed, sort_fed};
+ghost use Rattle.query_tree.specs.Order.{sort_cmp, sort_eq};
+ghost use Rattle.query_tree.specs.OrderLaws.{sort_cmp_total, sort_eq-same};
+ghost use Rattle.query_tree.specs.Feed.{sort_fed};
 
 use field_schema::{FieldNo, NoMemory};
 use std::alloc::Global;
@@ -12,7 +12,7 @@ use std::hash::{Hash, Hasher};
 use std::marker::Model;
 
 /// What documents are compared by. Fields stand by their place, and the index order last.
-#[derive(Clone, Copy, Debug)]
+#[derive(Clone, Copy, Debug, PartialEq, Eq, PartialOrd, Ord, Hash)]
 pub enum SortBy {
     /// The first value of a field.
     Field(FieldNo),
@@ -20,120 +20,12 @@ pub enum SortBy {
     DocId,
 }
 
-impl PartialEq for SortBy {
-    ghost eq = { sort_by_eq };
-
-    ghost laws = { partial_equiv_from_equiv (eq_by_cmp_equiv sort_by_cmp_total) };
-
-    fn eq(&self, other: &SortBy) -> bool {
-        self.cmp(other).is_eq()
-    }
-}
-
-impl Eq for SortBy {
-    ghost laws = { eq_by_cmp_equiv sort_by_cmp_total };
-}
-
-impl PartialOrd for SortBy {
-    ghost partial_cmp = { λ x y. Some (sort_by_cmp x y) };
-
-    ghost laws = { po sort_by_cmp_total (λ x y. refl) };
-
-    fn partial_cmp(&self, other: &SortBy) -> Option<Ordering> {
-        Some(self.cmp(other))
-    }
-}
-
-impl Ord for SortBy {
-    ghost cmp = { sort_by_cmp };
-
-    ghost total = { sort_by_cmp_total };
-
-    ghost matches_partial_cmp = { λ x y. refl };
-
-    ghost matches_eq = { λ x y. refl };
-
-    fn cmp(&self, other: &SortBy) -> Ordering {
-        match (self, other) {
-            (SortBy::Field(field), SortBy::Field(others)) => field.cmp(others),
-            (SortBy::Field(_), SortBy::DocId) => Ordering::Less,
-            (SortBy::DocId, SortBy::Field(_)) => Ordering::Greater,
-            (SortBy::DocId, SortBy::DocId) => Ordering::Equal,
-        }
-    }
-}
-
-impl Hash for SortBy {
-    ghost hash_input = { sort_by_fed };
-
-    ghost respects_eq = { λ x y e. ap sort_by_fed (sort_by_eq-same x y e) };
-
-    fn hash<H: Hasher>(&self, state: &mut H) {
-        match self {
-            SortBy::Field(field) => {
-                state.write_u8(0);
-                field.hash(state);
-            }
-            SortBy::DocId => state.write_u8(1),
-        }
-    }
-}
-
 /// One key of a sort. Keys stand by what they compare, and of two that compare the same the rising one first.
-#[derive(Clone, Copy, Debug)]
+#[derive(Clone, Copy, Debug, PartialEq, Eq, PartialOrd, Ord, Hash)]
 pub struct SortKey {
     pub by: SortBy,
     /// Whether greater comes first.
     pub down: bool,
-}
-
-impl PartialEq for SortKey {
-    ghost eq = { sort_key_eq };
-
-    ghost laws = { partial_equiv_from_equiv (eq_by_cmp_equiv sort_key_cmp_total) };
-
-    fn eq(&self, other: &SortKey) -> bool {
-        self.cmp(other).is_eq()
-    }
-}
-
-impl Eq for SortKey {
-    ghost laws = { eq_by_cmp_equiv sort_key_cmp_total };
-}
-
-impl PartialOrd for SortKey {
-    ghost partial_cmp = { λ x y. Some (sort_key_cmp x y) };
-
-    ghost laws = { po sort_key_cmp_total (λ x y. refl) };
-
-    fn partial_cmp(&self, other: &SortKey) -> Option<Ordering> {
-        Some(self.cmp(other))
-    }
-}
-
-impl Ord for SortKey {
-    ghost cmp = { sort_key_cmp };
-
-    ghost total = { sort_key_cmp_total };
-
-    ghost matches_partial_cmp = { λ x y. refl };
-
-    ghost matches_eq = { λ x y. refl };
-
-    fn cmp(&self, other: &SortKey) -> Ordering {
-        self.by.cmp(&other.by).then(self.down.cmp(&other.down))
-    }
-}
-
-impl Hash for SortKey {
-    ghost hash_input = { sort_key_fed };
-
-    ghost respects_eq = { λ x y e. ap sort_key_fed (sort_key_eq-same x y e) };
-
-    fn hash<H: Hasher>(&self, state: &mut H) {
-        self.by.hash(state);
-        self.down.hash(state);
-    }
 }
 
 /// The keys of a sort, the first one most telling. Sorts stand by the first keys that differ, else the shorter
