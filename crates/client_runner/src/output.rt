@@ -11,7 +11,7 @@ use field_schema::{NoMemory, Text};
 use script_form::Config;
 use std::alloc::Global;
 
-/// Writes a piece.
+// Writes a piece.
 fn put_text(out: &mut String, piece: &str) -> Result<(), NoMemory>
     ensures { OnOk result (Grows (string_bytes out.old) (string_bytes out.new) piece.now) }
 {
@@ -19,14 +19,14 @@ fn put_text(out: &mut String, piece: &str) -> Result<(), NoMemory>
     Ok(())
 }
 
-/// Writes a reply.
+// Writes a reply.
 fn put_reply(out: &mut String, reply: &Text) -> Result<(), NoMemory>
     ensures { OnOk result (Grows (string_bytes out.old) (string_bytes out.new) reply.now) }
 {
     put_text(out, reply.get())
 }
 
-/// Writes a piece and a number behind it.
+// Writes a piece and a number behind it.
 fn put_number(out: &mut String, piece: &str, number: u64) -> Result<(), NoMemory>
     ensures { OnOk result (Grows (string_bytes out.old) (string_bytes out.new) (number_piece piece.now number)) }
 {
@@ -34,14 +34,14 @@ fn put_number(out: &mut String, piece: &str, number: u64) -> Result<(), NoMemory
     Ok(())
 }
 
-/// The same of a smaller number.
+// The same of a smaller number.
 fn put_small(out: &mut String, piece: &str, number: u32) -> Result<(), NoMemory>
     ensures { OnOk result (Grows (string_bytes out.old) (string_bytes out.new) (number_piece piece.now number)) }
 {
     put_number(out, piece, u64::from(number))
 }
 
-/// Writes a piece and a place behind it, where there is one.
+// Writes a piece and a place behind it, where there is one.
 fn put_place(out: &mut String, piece: &str, place: Option<u64>) -> Result<(), NoMemory>
     ensures { OnOk result (Grows (string_bytes out.old) (string_bytes out.new) (optional_piece piece.now place)) }
 {
@@ -51,7 +51,7 @@ fn put_place(out: &mut String, piece: &str, place: Option<u64>) -> Result<(), No
     }
 }
 
-/// The same of a smaller number.
+// The same of a smaller number.
 fn put_optional(out: &mut String, piece: &str, number: Option<u32>) -> Result<(), NoMemory>
     ensures { OnOk result (Grows (string_bytes out.old) (string_bytes out.new) (optional_piece piece.now number)) }
 {
@@ -61,7 +61,7 @@ fn put_optional(out: &mut String, piece: &str, number: Option<u32>) -> Result<()
     }
 }
 
-/// Writes the line of a request.
+// Writes the line of a request.
 fn put_request(out: &mut String, row: &RequestRow) -> Result<(), NoMemory>
     ensures { OnOk result (Grows (string_bytes out.old) (string_bytes out.new) (request_line (request_view row.now))) }
 {
@@ -75,7 +75,7 @@ fn put_request(out: &mut String, row: &RequestRow) -> Result<(), NoMemory>
     put_text(out, "}\n")
 }
 
-/// Writes the place of a searcher's end under one of its names.
+// Writes the place of a searcher's end under one of its names.
 fn put_end(out: &mut String, told: bool, piece: &str, place: u64) -> Result<(), NoMemory>
     ensures { OnOk result (Grows (string_bytes out.old) (string_bytes out.new) (end_piece told piece.now place)) }
 {
@@ -86,7 +86,7 @@ fn put_end(out: &mut String, told: bool, piece: &str, place: u64) -> Result<(), 
     }
 }
 
-/// Writes a generation and a ticket.
+// Writes a generation and a ticket.
 fn put_pin(out: &mut String, generation: u32, ticket: u32) -> Result<(), NoMemory>
     ensures { OnOk result (Grows (string_bytes out.old) (string_bytes out.new) (from_piece (Some (generation, ticket)))) }
 {
@@ -94,7 +94,7 @@ fn put_pin(out: &mut String, generation: u32, ticket: u32) -> Result<(), NoMemor
     put_small(out, ",\"fromTicket\":", ticket)
 }
 
-/// Writes the generation and the ticket from which a searcher was warmed.
+// Writes the generation and the ticket from which a searcher was warmed.
 fn put_from(out: &mut String, from: Option<(u32, u32)>) -> Result<(), NoMemory>
     ensures { OnOk result (Grows (string_bytes out.old) (string_bytes out.new) (from_piece (option_map (λ p. (p.0, p.1)) from))) }
 {
@@ -104,7 +104,7 @@ fn put_from(out: &mut String, from: Option<(u32, u32)>) -> Result<(), NoMemory>
     }
 }
 
-/// Writes the line of a searcher.
+// Writes the line of a searcher.
 fn put_searcher(out: &mut String, row: &SearcherRow) -> Result<(), NoMemory>
     ensures { OnOk result (Grows (string_bytes out.old) (string_bytes out.new) (searcher_line (searcher_view row.now))) }
 {
@@ -117,7 +117,7 @@ fn put_searcher(out: &mut String, row: &SearcherRow) -> Result<(), NoMemory>
     put_text(out, "}\n")
 }
 
-/// Writes the lines of requests.
+// Writes the lines of requests.
 fn put_requests(out: &mut String, rows: &[RequestRow]) -> Result<(), NoMemory>
     ensures { OnOk result (Grows (string_bytes out.old) (string_bytes out.new) (flat_map (λ r. request_line (request_view r)) rows.now)) }
 {
@@ -127,7 +127,7 @@ fn put_requests(out: &mut String, rows: &[RequestRow]) -> Result<(), NoMemory>
     Ok(())
 }
 
-/// Writes the lines of searchers.
+// Writes the lines of searchers.
 fn put_searchers(out: &mut String, rows: &[SearcherRow]) -> Result<(), NoMemory>
     ensures { OnOk result (Grows (string_bytes out.old) (string_bytes out.new) (flat_map (λ r. searcher_line (searcher_view r)) rows.now)) }
 {

@@ -14,7 +14,7 @@ use serde_json::{Value, json};
 use std::alloc::{AllocError, Global};
 use std::sync::Arc;
 
-/// The text of a value without floats.
+// The text of a value without floats.
 pub(crate) fn text_of(alloc: Global, value: &Value) -> Result<Text, NoMemory>
     requires { has_float (view value.now) ≡ false }
     ensures { IfOk result (λ t. t ≡ compact_text (view value.now)) }
@@ -22,21 +22,21 @@ pub(crate) fn text_of(alloc: Global, value: &Value) -> Result<Text, NoMemory>
     Ok(Text::new(value.to_string(alloc)?))
 }
 
-/// The reply to an accepted update or commit.
+// The reply to an accepted update or commit.
 pub(crate) fn accepted_value(alloc: Global) -> Result<Value, AllocError>
     ensures { IfOk result (λ v. view v ≡ object (header 0)) }
 {
     json!(in alloc; {"responseHeader": {"status": 0}})
 }
 
-/// The reply to a refused request.
+// The reply to a refused request.
 pub(crate) fn refused_value(alloc: Global, code: u32, message: &str) -> Result<Value, AllocError>
     ensures { IfOk result (λ v. view v ≡ refused_data code message.now) }
 {
     json!(in alloc; {"error": {"code": code, "msg": message}, "responseHeader": {"status": code}})
 }
 
-/// The reply of a query, with its documents as a list.
+// The reply of a query, with its documents as a list.
 pub(crate) fn found_value(
     alloc: Global,
     docs: Value,
@@ -51,7 +51,7 @@ pub(crate) fn found_value(
     })
 }
 
-/// Documents as a list of JSON objects.
+// Documents as a list of JSON objects.
 pub(crate) fn docs_value(
     alloc: Global,
     schema: &Schema,
@@ -66,7 +66,7 @@ pub(crate) fn docs_value(
     Ok(Value::Array(values))
 }
 
-/// The message of a document's fault, which is not want of memory.
+// The message of a document's fault, which is not want of memory.
 pub(crate) fn doc_message_text(alloc: Global, fault: &DocFault) -> Result<Text, NoMemory>
     ensures fault { OnOk result (is_no_memory fault.now ≡ false) }
     ensures message { IfOk result (λ t. t ≡ doc_message fault.now) }

@@ -14,7 +14,7 @@ use script_form::{Config, Line, Script, What};
 use std::alloc::Global;
 
 impl Runner {
-    /// Opens a searcher for a commit without parameters, or refuses a commit that has some.
+    // Opens a searcher for a commit without parameters, or refuses a commit that has some.
     fn commit(
         &mut self,
         alloc: Global,
@@ -32,7 +32,7 @@ impl Runner {
         }
     }
 
-    /// Serves a line in its turn.
+    // Serves a line in its turn.
     fn step(&mut self, alloc: Global, config: &Config, line: &Line) -> Result<(), NoMemory>
         requires { HasRoom 1 (standing self.old) }
         ensures { OnOk result (standing self.new ≡ serve config.now (standing self.old) (call_as 0 line.now.number line.now.what)) }
@@ -74,7 +74,7 @@ impl Runner {
         }
     }
 
-    /// What the run gives.
+    // What the run gives.
     fn finish(self) -> Result<Output, NoMemory>
         ensures { IfOk result (λ o. output_view o ≡ output_at (standing self)) }
     {

@@ -22,7 +22,7 @@ use field_schema::{FieldNo, NoMemory, Text};
 use script_form::Config;
 use std::alloc::Global;
 
-/// A request as its line names it.
+// A request as its line names it.
 #[derive(Clone, Copy)]
 pub(crate) struct Head {
     pub(crate) client: u32,
@@ -30,7 +30,7 @@ pub(crate) struct Head {
     pub(crate) verb: Verb,
 }
 
-/// The reply of a row, and the numbers in it.
+// The reply of a row, and the numbers in it.
 #[derive(Drop)]
 pub(crate) struct Reply {
     pub(crate) text: Text,
@@ -39,7 +39,7 @@ pub(crate) struct Reply {
     pub(crate) docs: u32,
 }
 
-/// Where a serial run stands.
+// Where a serial run stands.
 #[derive(Drop)]
 pub(crate) struct Runner {
     pub(crate) index: Index,
@@ -50,7 +50,7 @@ pub(crate) struct Runner {
 }
 
 impl Runner {
-    /// Before the first line.
+    // Before the first line.
     pub(crate) fn new(alloc: Global) -> Runner
         ensures { standing result ≡ start }
     {
@@ -70,7 +70,7 @@ impl Runner {
         }
     }
 
-    /// Tells a row behind the others.
+    // Tells a row behind the others.
     fn tell(
         &mut self,
         head: Head,
@@ -97,7 +97,7 @@ impl Runner {
     }
 }
 
-/// The reply to an accepted update or commit.
+// The reply to an accepted update or commit.
 fn accepted_reply(alloc: Global, config: &Config) -> Result<Reply, NoMemory>
     ensures { IfOk result (Shown config.now accepted) }
 {
@@ -111,7 +111,7 @@ fn accepted_reply(alloc: Global, config: &Config) -> Result<Reply, NoMemory>
     })
 }
 
-/// The reply to a refused request.
+// The reply to a refused request.
 fn refused_reply(alloc: Global, config: &Config, message: &str) -> Result<Reply, NoMemory>
     ensures { IfOk result (Shown config.now (refused message.now)) }
 {
@@ -125,7 +125,7 @@ fn refused_reply(alloc: Global, config: &Config, message: &str) -> Result<Reply,
     })
 }
 
-/// The reply of a query for a word in a field, on what the current searcher sees: the first ten documents that have it.
+// The reply of a query for a word in a field, on what the current searcher sees: the first ten documents that have it.
 fn found_reply(
     alloc: Global,
     config: &Config,
@@ -149,7 +149,7 @@ fn found_reply(
 }
 
 impl Runner {
-    /// Refuses a request, which changes nothing.
+    // Refuses a request, which changes nothing.
     pub(crate) fn refuse(
         &mut self,
         alloc: Global,
@@ -163,7 +163,7 @@ impl Runner {
         self.tell(head, None, None, None, reply)
     }
 
-    /// Adds a document, or refuses it with its first fault.
+    // Adds a document, or refuses it with its first fault.
     pub(crate) fn add(
         &mut self,
         alloc: Global,
@@ -183,7 +183,7 @@ impl Runner {
         }
     }
 
-    /// Adds a document, which takes the next place.
+    // Adds a document, which takes the next place.
     fn accept(
         &mut self,
         alloc: Global,
@@ -201,7 +201,7 @@ impl Runner {
         self.tell(head, Some(place), None, None, reply)
     }
 
-    /// Opens the next searcher, warms it from the current one and registers it.
+    // Opens the next searcher, warms it from the current one and registers it.
     pub(crate) fn open(
         &mut self,
         alloc: Global,
@@ -231,7 +231,7 @@ impl Runner {
         self.tell(head, Some(opened), Some(generation), None, reply)
     }
 
-    /// Answers a query on what the current searcher sees.
+    // Answers a query on what the current searcher sees.
     pub(crate) fn query(
         &mut self,
         alloc: Global,

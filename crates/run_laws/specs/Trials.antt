@@ -7,7 +7,7 @@ use Rattle.doc_model.specs.Document.{Document}
 use Rattle.query_tree.specs.declared.query.Query.{Term}
 use Rattle.search_model.specs.Answer.{Asked, answer}
 use Rattle.search_model.specs.Reply.{Outcome, found, accepted, too_many, no_memory, reply_text, code_of, found_of, docs_of}
-use Rattle.script_form.specs.ReadConfig.{default_config}
+use Rattle.script_form.specs.ReadConfig.{no_warming}
 use Rattle.search_model.specs.TermQuery.{first_ten}
 use Rattle.script_form.specs.declared.config.Config.{Config}
 use Rattle.script_form.specs.declared.script.Line.{Line}
@@ -55,7 +55,21 @@ two_fields = record { list = string_field (codes "id") ∷ string_field (codes "
 
 -- at most one searcher is warming
 abbrev pub one_warming : Config
-one_warming = default_config two_fields
+one_warming = record {
+  schema = two_fields;
+  filter_size = 512;
+  filter_warm = no_warming;
+  result_size = 512;
+  result_warm = no_warming;
+  document_size = 512;
+  window = 20;
+  most_docs = 200;
+  max_warming = 1;
+  cold = false;
+  most_clauses = 1024;
+  warmers = 1;
+  df = None;
+}
 
 -- at most two searchers are warming
 abbrev pub two_warming : Config

@@ -1,6 +1,9 @@
 pub mod Cuts
 pub mod Markers
 pub mod Limits
-pub mod Members
 pub mod Scripts
 pub mod Configs
+pub mod Checks
+pub mod Values
+pub mod Decimals
+pub mod EmptyLists

@@ -1,4 +1,5 @@
 pub mod Lines
+pub mod Results
+pub mod Decimals
 pub mod ReadConfig
-pub mod BodyForms
 pub mod ReadScript

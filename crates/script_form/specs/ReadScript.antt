@@ -1,51 +1,95 @@
--- Which lines a script has, in the forms that are built so far.
-use Rattle.std.specs.Prelude.{ℕ, ◌+◌, List, [], ◌∷◌, length, drop, Bool, ◌||◌, ◌==◌, nat_eq, if◌then◌else◌, Option, Some, None, is_some, Result, Ok, Err, codes, slice_index, ⊤, ◌≡◌}
-use Rattle.std.specs.List.{starts_with}
+-- Which lines a script has, and its first fault.
+use Rattle.std.specs.Prelude.{ℕ, ◌+◌, List, [], ◌∷◌, length, Bool, true, false, not, ◌||◌, ◌==◌, if◌then◌else◌, Option, Result, Ok, Err, codes, slice_index}
+use Rattle.std.specs.List.{before_first, after_first}
 use Rattle.std.specs.Option.{option_map_or}
 use Rattle.std.specs.Str.{is_utf8}
 use Rattle.field_schema.specs.Bytes.{bytes_eq}
-use Rattle.field_schema.specs.Schema.{Fields}
 use Rattle.script_form.specs.declared.script.Line.{Line}
-use Rattle.script_form.specs.declared.script.LineFault.{LineFault}
-use Rattle.script_form.specs.declared.script.LineName.TheVariants.{NotBuilt}
+use Rattle.script_form.specs.declared.script.LineName.{LineName}
+use Rattle.script_form.specs.declared.script.LineName.TheVariants as name
 use Rattle.script_form.specs.declared.script.What.{What}
 use Rattle.script_form.specs.declared.script.What.TheVariants as what
 use Rattle.script_form.specs.declared.script.ScriptRefusal.{ScriptRefusal}
 use Rattle.script_form.specs.declared.script.ScriptRefusal.TheVariants as refusal
-use Rattle.script_form.specs.BodyForms.{is_add_body, asked_of}
+use Rattle.script_form.specs.Decimals.{are_digits, decimal_within}
+use Rattle.script_form.specs.Results.{result_then}
+
+-- want of memory is no fault of the script
+abbrev pub is_no_memory : ScriptRefusal → Bool
+is_no_memory (refusal.Fault fault) = false
+is_no_memory refusal.NoMemory = true
+
+-- the clients are numbered from 1 to this
+abbrev pub most_clients : ℕ
+most_clients = 12
+
+-- ---- one line
 
 -- empty, or a comment
 abbrev pub is_nothing : List ℕ → Bool
 is_nothing line = length line == 0 || slice_index line 0 == 35
 
--- what a text asks for
-abbrev pub what_in : Fields → List ℕ → Option What
-what_in s line =
-    if is_nothing line then Some what.Nothing else
-    (if bytes_eq line (codes "1 commit") then Some (what.Commit 1 []) else
-    (if starts_with nat_eq line (codes "1 add ") then (if is_add_body s (drop 6 line) then Some (what.Add 1 (drop 6 line)) else None) else
-    (if starts_with nat_eq line (codes "1 query ") then (if is_some (asked_of s (drop 8 line)) then Some (what.Query 1 (drop 8 line)) else None) else None)))
+abbrev pub is_space : ℕ → Bool
+is_space c = c == 32
 
--- what a line asks for, if it has one of the forms
-unfoldable pub what_of : Fields → List ℕ → Option What
-what_of s line = if is_utf8 line then what_in s line else None
+-- the part before the first space, or the whole line
+abbrev pub client_part : List ℕ → List ℕ
+client_part line = before_first is_space line
 
--- a line in front of the others
-abbrev pub before_others : Line → Result (List Line) LineFault → Result (List Line) LineFault
-before_others line (Ok others) = Ok (line ∷ others)
-before_others line (Err fault) = Err fault
+-- the part between the first and the second space
+abbrev pub verb_part : List ℕ → List ℕ
+verb_part line = before_first is_space (after_first is_space line)
 
--- the lines from number n on, or the first that has none of the forms
-abbrev pub lines_from : ℕ → Fields → List (List ℕ) → Result (List Line) LineFault
-lines_from n s [] = Ok []
-lines_from n s (line ∷ others) =
-    option_map_or (λ w. before_others (record { number = n; what = w }) (lines_from (n + 1) s others)) (what_of s line) (Err (record { line = n; name = NotBuilt }))
+-- what stands behind the second space
+abbrev pub body_part : List ℕ → List ℕ
+body_part line = after_first is_space (after_first is_space line)
 
--- the script, or its first fault
-unfoldable pub script_of : Fields → List (List ℕ) → Result (List Line) LineFault
-script_of s ls = lines_from 1 s ls
+-- a request that needs a body
+abbrev pub with_body : (List ℕ → What) → List ℕ → Result What LineName
+with_body request body = if length body == 0 then Err name.BadBody else Ok (request body)
 
--- the refusal is want of memory, or it tells the script's first fault
-abbrev pub IsScriptRefusal : Result (List Line) LineFault → ScriptRefusal → Type 0
-IsScriptRefusal script refusal.NoMemory = ⊤
-IsScriptRefusal script (refusal.Fault fault) = script ≡ Err fault
+-- what a client asks for by a verb and a body
+abbrev pub request_of : ℕ → List ℕ → List ℕ → Result What LineName
+request_of client verb body =
+    if bytes_eq verb (codes "add") then with_body (what.Add client) body else
+    (if bytes_eq verb (codes "delete") then with_body (what.Delete client) body else
+    (if bytes_eq verb (codes "query") then with_body (what.Query client) body else
+    (if bytes_eq verb (codes "commit") then Ok (what.Commit client body) else Err name.BadVerb)))
+
+-- the client that a line begins with, one of so many
+abbrev pub client_of : ℕ → List ℕ → Result ℕ LineName
+client_of clients part =
+    if are_digits part then option_map_or Ok (decimal_within 1 clients part) (Err name.BadClient) else Err name.NoClient
+
+-- what a text asks for, or its first fault
+abbrev pub what_in : ℕ → List ℕ → Result What LineName
+what_in clients line =
+    if is_nothing line then Ok what.Nothing else
+    (if bytes_eq line (codes "---") then Ok what.PhaseEnd else
+    result_then (client_of clients (client_part line)) (λ client. request_of client (verb_part line) (body_part line)))
+
+-- what a line asks for, or its first fault
+unfoldable pub what_of : ℕ → List ℕ → Result What LineName
+what_of clients line = if is_utf8 line then what_in clients line else Err name.NotUtf8
+
+-- ---- the lines
+
+-- the line of that number has that fault
+abbrev pub line_failed : ℕ → LineName → ScriptRefusal
+line_failed number fault = refusal.Fault (record { line = number; name = fault })
+
+abbrev pub told : {A : Type 0} → ℕ → Result A LineName → Result A ScriptRefusal
+told number (Ok x) = Ok x
+told number (Err fault) = Err (line_failed number fault)
+
+-- the lines from that number on, or the first fault
+abbrev pub lines_from : ℕ → ℕ → List (List ℕ) → Result (List Line) ScriptRefusal
+lines_from clients number [] = Ok []
+lines_from clients number (line ∷ others) =
+    result_then (told number (what_of clients line)) (λ asked.
+    result_then (lines_from clients (number + 1) others) (λ later.
+    Ok (record { number = number; what = asked } ∷ later)))
+
+-- the script of so many clients, or its first fault
+unfoldable pub script_of : ℕ → List (List ℕ) → Result (List Line) ScriptRefusal
+script_of clients ls = lines_from clients 1 ls

@@ -1,17 +1,18 @@
-ghost use Rattle.std.specs.Prelude.{◌≡◌, ◌≤◌, length, drop, Some, None, codes, option_and_then, option_map, IfOk, MatchResult, ⊤};
-ghost use Rattle.std.specs.List.{list_all};
+ghost use Rattle.std.specs.Prelude.{◌≡◌, ◌≤◌, length, drop, Err, IfOk, MatchResult, ok_or, option_map, ⊤};
 ghost use Rattle.std.specs.Str.Lines.{lines};
-ghost use Rattle.serde_json.specs.Read.{read};
-ghost use Rattle.serde_json.specs.View.{items_view, view};
-ghost use Rattle.field_schema.specs.ReadSchema.{field_data, listed};
+ghost use Rattle.serde_json.specs.View.{view};
+ghost use Rattle.field_schema.specs.Outcome.{Gives};
 ghost use Rattle.script_form.specs.Lines.{config_text, script_lines};
-ghost use Rattle.script_form.specs.ReadConfig.{config_in, config_of, default_config, has_two, is_plain_field, only_member, plain_schema, IsConfigRefusal};
+ghost use Rattle.script_form.specs.ReadConfig.{config_in, config_of, failed, is_no_memory, object_in, text_config, value_in, without_listeners as built_part};
+ghost use Rattle.script_form.specs.Results.{result_map};
 
 use crate::lines::{behind_marker, is_marker, next_line};
-use crate::requests::read_json;
-use field_schema::{FieldNo, NoMemory, Schema, SchemaFault, Text};
+use crate::member::{
+    has_no_listener, read_cache, read_documents, read_field, read_flag, read_number, read_schema,
+};
+use field_schema::{FieldNo, NoMemory, Schema, Text};
 use serde_json::Value;
-use std::alloc::Global;
+use std::alloc::{AllocFailed, Global};
 
 /// How many entries of an old cache are regenerated: a number, or a percentage of its length.
 #[derive(Clone, Copy, Debug, PartialEq, Eq)]
@@ -51,9 +52,10 @@ pub struct Config {
 /// The first check of the configuration that fails, and what it looked at.
 #[derive(Debug, Drop)]
 pub struct ConfigFault {
-    /// The check's number, from 1; 0 where the configuration has not the form that is built so far.
+    /// The check's number, 1 to 14; 0 where all of these hold and there are listeners, which are not built so far.
     pub at: u32,
-    /// The name of what it looked at; `config` where that is the whole.
+    /// The name of what it looked at: the member's name, `%%`, `config` for the whole, the name that a schema's fault
+    /// has (`uniqueKey` where there is none), or `NotBuilt`.
     pub name: Text,
 }
 
@@ -77,37 +79,57 @@ impl From<NoMemory> for ConfigRefusal {
     }
 }
 
+impl<T: Drop> From<AllocFailed<T>> for ConfigRefusal {
+    ghost use Rattle.std.specs.Prelude.{◌≡◌};
+    ghost use Rattle.script_form.specs.declared.config.ConfigRefusal.TheVariants as refusal;
+
+    ghost from_gives = { λ _ e. e ≡ refusal.NoMemory };
+
+    fn from(_error: AllocFailed<T>) -> ConfigRefusal {
+        ConfigRefusal::NoMemory
+    }
+}
+
 /// The configuration that the input begins with, and the place at which the script begins, in bytes from 0.
 ///
-/// The input has the form where some line is exactly `%%`, and the text before it is an object whose one member
-/// `schema` is a schema of plain string fields: each field's object has the two members `name` and `type`, and the
-/// type is `string`. All else has its default. An error is an input without that form (a fault that names
-/// `config`), or want of memory. It costs the length of what stands before the script, and what the schema costs to
-/// read.
+/// The configuration is the text before the first line that is exactly `%%`, one JSON object nested to at most 127.
+/// Unknown members are ignored, and of a repeated member the last counts. A member that is null is there. The checks
+/// stand in this order, and the first that fails is the fault: its number, and the member's name if no other is
+/// said.
+///
+/// 1. The line `%%` is there (name `%%`).
+/// 2. The text is UTF-8 and reads as such an object (name `config`).
+/// 3. `version` is 1; missing, it is 1.
+/// 4. `schema` is there and reads, as `Schema::read` says; the name is that of the fault's field, `uniqueKey` where
+///    no field can be the key, and `schema` where it has not the shape of a schema.
+/// 5. `filterCache` is an object whose `size` is 1 to 4,096 (missing: 512) and whose `autowarmCount` is 0 to 4,096, or
+///    a text such as `50%`, of a number 0 to 100 without a leading zero (missing: 0). Missing, it has these.
+/// 6. `queryResultCache` is the same.
+/// 7. `documentCache` is an object whose `size` is 1 to 4,096 (missing: 512). Missing, it has this.
+/// 8. `queryResultWindowSize` is 1 to 4,096; missing, it is 20.
+/// 9. `queryResultMaxDocsCached` is 1 to 4,096; missing, it is 200.
+/// 10. `maxWarmingSearchers` is 1 to 4; missing, it is 1.
+/// 11. `useColdSearcher` is true or false; missing, it is false.
+/// 12. `maxBooleanClauses` is 1 to 65,535; missing, it is 1,024.
+/// 13. `warmers` is 1 to 4; missing, it is 1.
+/// 14. `df` is the name of an indexed field; missing, there is none.
+///
+/// Listeners are not built so far: where all these hold and `firstSearcher` or `newSearcher` is there and is not an
+/// empty list, the fault has the number 0 and the name `NotBuilt`. `NoMemory` comes only where memory is wanting. The
+/// cost is linear in what stands before the script, but for the members of an object, each of which is found by the
+/// logarithm of their number.
 #[tactic(auto, unfolding(crate::specs::ReadConfig::config_of))]
 pub fn read_config(alloc: Global, bytes: &[u8]) -> Result<(Config, usize), ConfigRefusal>
-    ensures config { MatchResult result (λ r. config_of bytes.now ≡ Some r.0) (IsConfigRefusal (config_of bytes.now)) }
+    ensures config { Gives is_no_memory (result_map (λ r. r.0) result) (config_of bytes.now) }
     ensures begin { MatchResult result (λ r. lines (drop r.1 bytes.now) ≡ script_lines bytes.now) (λ _. ⊤) }
     ensures within { MatchResult result (λ r. r.1 ≤ length bytes.now) (λ _. ⊤) }
 {
     let Some(script) = behind_marker(bytes) else {
-        return Err(fault(alloc));
+        return refused(alloc, 1, "%%");
     };
     let text = before_marker(alloc, bytes)?;
-    let Some(config) = read_text(alloc, text.as_slice())? else {
-        return Err(fault(alloc));
-    };
+    let config = read_text(alloc, text.as_slice())?;
     Ok((config, bytes.len() - script.len()))
-}
-
-// The refusal of an input that has not the form of those with a configuration.
-fn fault(alloc: Global) -> ConfigRefusal
-    ensures { IsConfigRefusal None result }
-{
-    match Text::from_str(alloc, "config") {
-        Ok(name) => ConfigRefusal::Fault(ConfigFault { at: 0, name }),
-        Err(_) => ConfigRefusal::NoMemory,
-    }
 }
 
 // The lines before the marker line, joined by line feeds.
@@ -132,119 +154,105 @@ fn before_marker(alloc: Global, bytes: &[u8]) -> Result<Vec<u8>, NoMemory>
     Ok(text)
 }
 
-// The configuration of a text, if it has the form of one.
-fn read_text(alloc: Global, text: &[u8]) -> Result<Option<Config>, NoMemory>
-    ensures { IfOk result (λ o. o ≡ config_in text.now) }
+// The configuration of a text, or the first check that fails of those from 2 on.
+fn read_text(alloc: Global, text: &[u8]) -> Result<Config, ConfigRefusal>
+    ensures { Gives is_no_memory result (text_config text.now) }
 {
-    let Ok(text) = str::from_utf8(text) else {
-        return Ok(None);
+    let Some(members) = read_object(alloc, text)? else {
+        return refused(alloc, 2, "config");
     };
-    read_object(alloc, text)
+    read_members(alloc, &members)
 }
 
-// The configuration of a text that is UTF-8, if it has the form of one.
-fn read_object(alloc: Global, text: &str) -> Result<Option<Config>, NoMemory>
-    ensures { IfOk result (λ o. o ≡ option_map default_config (option_and_then plain_schema (option_and_then (only_member (codes "schema")) (read text.now)))) }
+// The object that a text is, where it is one.
+fn read_object(alloc: Global, text: &[u8]) -> Result<Option<Value>, NoMemory>
+    ensures { IfOk result (λ o. option_map view o ≡ object_in text.now) }
 {
-    let Some(value) = read_json(alloc, text)? else {
-        return Ok(None);
-    };
-    let Some(schema) = schema_member(&value) else {
-        return Ok(None);
-    };
-    let schema = read_schema(alloc, schema)?;
-    Ok(schema.map(with_defaults))
-}
-
-// The configuration that names its schema alone.
-fn with_defaults(schema: Schema) -> Config
-    ensures { result ≡ default_config schema }
-{
-    let none = WarmSetting {
-        number: 0,
-        percent: false,
-    };
-    Config {
-        schema,
-        filter_size: 512,
-        filter_warm: none,
-        result_size: 512,
-        result_warm: none,
-        document_size: 512,
-        window: 20,
-        most_docs: 200,
-        max_warming: 1,
-        cold: false,
-        most_clauses: 1024,
-        warmers: 1,
-        df: None,
+    match read_value(alloc, text)? {
+        Some(value) if value.is_object() => Ok(Some(value)),
+        _ => Ok(None),
     }
 }
 
-// The value of an object's one member, where that is its schema.
-fn schema_member(value: &Value) -> Option<&Value>
-    ensures { option_map (λ v. view v.now) result ≡ only_member (codes "schema") (view value.now) }
+// The value that a text is, where it is UTF-8 and reads as JSON.
+fn read_value(alloc: Global, text: &[u8]) -> Result<Option<Value>, NoMemory>
+    ensures { IfOk result (λ o. option_map view o ≡ value_in text.now) }
 {
-    let mut members = value.as_object()?.iter();
-    let (name, schema) = members.next()?;
-    if name.as_str() == "schema" && members.next().is_none() {
-        Some(schema)
-    } else {
-        None
-    }
-}
-
-// The schema of plain fields that a value reads to, if it is one.
-fn read_schema(alloc: Global, value: &Value) -> Result<Option<Schema>, NoMemory>
-    ensures { IfOk result (λ o. o ≡ plain_schema (view value.now)) }
-{
-    if !has_plain_fields(value) {
-        return Ok(None);
-    }
-    match Schema::read(alloc, value) {
-        Ok(schema) => Ok(Some(schema)),
-        Err(SchemaFault::NoMemory) => Err(NoMemory),
+    match Value::from_slice(alloc, text) {
+        Ok(value) => Ok(Some(value)),
+        Err(error) if error.is_memory() => Err(NoMemory),
         Err(_) => Ok(None),
     }
 }
 
-// Whether each field of a schema says no more than that it is a string.
-fn has_plain_fields(schema: &Value) -> bool
-    ensures { result ≡ list_all is_plain_field (field_data (view schema.now)) }
+// The configuration of an object, or the first check that fails of those from 3 on.
+fn read_members(alloc: Global, members: &Value) -> Result<Config, ConfigRefusal>
+    ensures { Gives is_no_memory result (config_in (view members.now)) }
 {
-    match schema.get("fields").and_then(Value::as_array) {
-        Some(fields) => all_plain(fields.as_slice()),
-        None => true,
+    read_number(alloc, members, 3, "version", 1, 1)?;
+    let schema = read_schema(alloc, members, 4, "schema")?;
+    let filters = read_cache(alloc, members, 5, "filterCache")?;
+    let results = read_cache(alloc, members, 6, "queryResultCache")?;
+    let documents = read_documents(alloc, members, 7, "documentCache")?;
+    let window = read_number(alloc, members, 8, "queryResultWindowSize", 20, 4_096)?;
+    let most_docs = read_number(alloc, members, 9, "queryResultMaxDocsCached", 200, 4_096)?;
+    let max_warming = read_number(alloc, members, 10, "maxWarmingSearchers", 1, 4)?;
+    let cold = read_flag(alloc, members, 11, "useColdSearcher")?;
+    let most_clauses = read_number(alloc, members, 12, "maxBooleanClauses", 1_024, 65_535)?;
+    let warmers = read_number(alloc, members, 13, "warmers", 1, 4)?;
+    let df = read_field(alloc, members, 14, "df", &schema)?;
+    let config = Config {
+        schema,
+        filter_size: filters.size,
+        filter_warm: filters.warm,
+        result_size: results.size,
+        result_warm: results.warm,
+        document_size: documents,
+        window,
+        most_docs,
+        max_warming,
+        cold,
+        most_clauses,
+        warmers,
+        df,
+    };
+    without_listeners(alloc, members, config)
+}
+
+// The configuration, where no listeners are there.
+fn without_listeners(
+    alloc: Global,
+    members: &Value,
+    config: Config,
+) -> Result<Config, ConfigRefusal>
+    ensures { Gives is_no_memory result (built_part config (view members.now)) }
+{
+    if has_no_listener(members, "firstSearcher") && has_no_listener(members, "newSearcher") {
+        Ok(config)
+    } else {
+        refused(alloc, 0, "NotBuilt")
     }
 }
 
-// Whether each of the fields says no more than that it is a string.
-fn all_plain(fields: &[Value]) -> bool
-    ensures { result ≡ list_all is_plain_field (listed (items_view fields.now)) }
+// What a check found, or its fault.
+pub(crate) fn checked<T: Drop>(
+    alloc: Global,
+    at: u32,
+    name: &str,
+    found: Option<T>,
+) -> Result<T, ConfigRefusal>
+    ensures { Gives is_no_memory result (ok_or found (failed at name.now)) }
 {
-    fields.iter().all(is_plain)
+    match found {
+        Some(value) => Ok(value),
+        None => refused(alloc, at, name),
+    }
 }
 
-// Whether a field says no more than that it is a string.
-fn is_plain(field: &Value) -> bool
-    ensures { result ≡ is_plain_field (view field.now) }
+// The fault of a check.
+pub(crate) fn refused<T>(alloc: Global, at: u32, name: &str) -> Result<T, ConfigRefusal>
+    ensures { Gives is_no_memory result (Err (failed at name.now)) }
 {
-    has_name_and_type(field) && field.get("type").and_then(Value::as_str).unwrap_or("") == "string"
-}
-
-// Whether an object has exactly the members `name` and `type`.
-fn has_name_and_type(field: &Value) -> bool
-    ensures { result ≡ has_two (codes "name") (codes "type") (view field.now) }
-{
-    let Some(members) = field.as_object() else {
-        return false;
-    };
-    let mut members = members.iter();
-    let Some((first, _)) = members.next() else {
-        return false;
-    };
-    let Some((second, _)) = members.next() else {
-        return false;
-    };
-    members.next().is_none() && first.as_str() == "name" && second.as_str() == "type"
+    let name = Text::from_str(alloc, name)?;
+    Err(ConfigRefusal::Fault(ConfigFault { at, name }))
 }

@@ -1,14 +1,19 @@
-//! The configuration and the script, read from the bytes of the input.
+//! The configuration and the script, read from the bytes of the input, exactly or to their first fault.
+//!
+//! - [`read_config`] reads the configuration, which stands before the first line that is exactly `%%`.
+//! - [`read_script`] reads the lines behind it. What stands in a request's body is read by whoever executes it.
+//! - [`too_large`] says whether the input passes a limit.
 #![tactic(auto)]
 
 mod config;
+mod decimal;
 mod lines;
-mod requests;
+mod member;
+mod request;
 mod script;
 #[cfg(test)]
 mod tests;
 
 pub use config::{Config, ConfigFault, ConfigRefusal, WarmSetting, read_config};
 pub use lines::too_large;
-pub use requests::query_term;
 pub use script::{Line, LineFault, LineName, Script, ScriptRefusal, What, read_script};

@@ -1,16 +1,18 @@
-ghost use Rattle.std.specs.Prelude.{◌≡◌, ◌<◌, ◌^◌, length, Ok, Err, Some, None, IfOk, MatchResult, is_some, if◌then◌else◌};
+ghost use Rattle.std.specs.Prelude.{◌≡◌, ◌<◌, ◌^◌, length};
 ghost use Rattle.std.specs.Str.Lines.{lines};
-ghost use Rattle.script_form.specs.ReadScript.{script_of, what_in, what_of, IsScriptRefusal};
-ghost use Rattle.script_form.specs.BodyForms.{asked_of, is_add_body};
-ghost use Rattle.script_form.specs.declared.script.What.TheVariants.{Add as an_add, Query as a_query};
+ghost use Rattle.field_schema.specs.Outcome.{Gives};
+ghost use Rattle.script_form.specs.ReadScript.{is_no_memory, most_clients, script_of};
 
 use crate::lines::next_line;
-use crate::requests::{is_add, is_query};
-use field_schema::{NoMemory, Schema, Text};
+use crate::request::read_line;
+use field_schema::{NoMemory, Text};
 use std::alloc::{AllocFailed, Global};
 use std::marker::Model;
 
-/// What a line of the script asks for.
+// The clients are numbered from 1 to this.
+const CLIENTS: u32 = 12;
+
+/// What a line of the script asks for. A body is the text behind the verb's space; that of a commit may be empty.
 #[derive(Debug, Drop)]
 pub enum What {
     Add { client: u32, body: Text },
@@ -45,20 +47,20 @@ impl Model for Script {
     ghost view = { λ s. s.lines.items };
 }
 
-/// What is wrong with a line.
+/// What is wrong with a line; the first of these counts.
 #[derive(Clone, Copy, Debug, PartialEq, Eq)]
 pub enum LineName {
     /// It is not UTF-8.
     NotUtf8,
-    /// It does not begin with a number.
+    /// The part before its first space, or the whole line, is not one or more digits.
     NoClient,
-    /// The number is no client's.
+    /// That part is not the number of a client, in decimal without a leading zero.
     BadClient,
-    /// The request is none that there is.
+    /// The part between its first and its second space is not `add`, `delete`, `query` or `commit`.
     BadVerb,
-    /// The request lacks its body.
+    /// It is an add, a delete or a query, and nothing stands behind its second space, or there is none.
     BadBody,
-    /// The line has none of the forms that are built so far.
+    /// It asks for what is not built so far. `read_script` never answers this.
     NotBuilt,
 }
 
@@ -116,16 +118,19 @@ impl Script {
     }
 }
 
-/// The lines of a script over a schema, or the first that has none of the forms that are built so far.
+/// The lines of a script, or the first fault.
 ///
-/// The forms are the empty line, a comment that begins with `#`, `1 commit`, `1 add` with an object of texts that
-/// is a document of the schema, and `1 query q=` with a field's name, a colon and a word of letters and digits.
-/// Lines are numbered from 1. An error is a line of no form (`NotBuilt`), or want of memory. It costs the script's
-/// length, and what the documents of its adds cost to read.
+/// An empty line and one that begins with `#` ask for nothing, and `---` ends the phase. Each other line is a
+/// request: a client's number, 1 to 12 in decimal without a leading zero, a space, then `add`, `delete` or `query`,
+/// a space and a body, or `commit` and, if it is there, a space and a body. No body is read here, so no fault tells of
+/// what stands in one.
+///
+/// Lines are numbered from 1. The fault is that of the first line with one, by the order of [`LineName`]. `NoMemory`
+/// comes only where memory is wanting. It costs the script's length.
 #[tactic(auto, unfolding(crate::specs::ReadScript::script_of))]
-pub fn read_script(alloc: Global, schema: &Schema, bytes: &[u8]) -> Result<Script, ScriptRefusal>
+pub fn read_script(alloc: Global, bytes: &[u8]) -> Result<Script, ScriptRefusal>
     requires { length bytes.now < 2 ^ 32 }
-    ensures { MatchResult result (λ s. script_of schema.now (lines bytes.now) ≡ Ok s) (IsScriptRefusal (script_of schema.now (lines bytes.now))) }
+    ensures { Gives is_no_memory result (script_of most_clients (lines bytes.now)) }
 {
     let mut read = Vec::new(alloc);
     let mut number: u32 = 0;
@@ -133,67 +138,9 @@ pub fn read_script(alloc: Global, schema: &Schema, bytes: &[u8]) -> Result<Scrip
     while !rest.is_empty() {
         let (line, others) = next_line(rest);
         number += 1;
-        let Some(what) = read_line(alloc, schema, line)? else {
-            return Err(ScriptRefusal::Fault(LineFault {
-                line: number,
-                name: LineName::NotBuilt,
-            }));
-        };
+        let what = read_line(alloc, CLIENTS, number, line)?;
         read.push(Line { number, what })?;
         rest = others;
     }
     Ok(Script::new(read))
-}
-
-// What a line asks for, if it has one of the forms.
-#[tactic(auto, unfolding(crate::specs::ReadScript::what_of))]
-fn read_line(alloc: Global, schema: &Schema, line: &[u8]) -> Result<Option<What>, NoMemory>
-    ensures { IfOk result (λ o. o ≡ what_of schema.now line.now) }
-{
-    match str::from_utf8(line) {
-        Ok(text) => read_text(alloc, schema, text),
-        Err(_) => Ok(None),
-    }
-}
-
-// What a text asks for, if it has one of the forms.
-fn read_text(alloc: Global, schema: &Schema, line: &str) -> Result<Option<What>, NoMemory>
-    ensures { IfOk result (λ o. o ≡ what_in schema.now line.now) }
-{
-    if line.is_empty() || line.starts_with('#') {
-        return Ok(Some(What::Nothing));
-    }
-    if line == "1 commit" {
-        let body = Text::new(String::new(alloc));
-        return Ok(Some(What::Commit { client: 1, body }));
-    }
-    if let Some(body) = line.strip_prefix("1 add ") {
-        return read_add(alloc, schema, body);
-    }
-    if let Some(body) = line.strip_prefix("1 query ") {
-        return read_query(alloc, schema, body);
-    }
-    Ok(None)
-}
-
-// The add with a body, if it is one.
-fn read_add(alloc: Global, schema: &Schema, body: &str) -> Result<Option<What>, NoMemory>
-    ensures { IfOk result (λ o. o ≡ (if is_add_body schema.now body.now then Some (an_add 1 body.now) else None)) }
-{
-    if !is_add(alloc, schema, body)? {
-        return Ok(None);
-    }
-    let body = Text::from_str(alloc, body)?;
-    Ok(Some(What::Add { client: 1, body }))
-}
-
-// The query with parameters, if it is one.
-fn read_query(alloc: Global, schema: &Schema, body: &str) -> Result<Option<What>, NoMemory>
-    ensures { IfOk result (λ o. o ≡ (if is_some (asked_of schema.now body.now) then Some (a_query 1 body.now) else None)) }
-{
-    if !is_query(schema, body) {
-        return Ok(None);
-    }
-    let body = Text::from_str(alloc, body)?;
-    Ok(Some(What::Query { client: 1, body }))
 }

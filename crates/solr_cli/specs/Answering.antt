@@ -1,32 +1,40 @@
 -- What the bytes of an input are answered.
-use Rattle.std.specs.Prelude.{◌≡◌, ℕ, List, false, true, Some, None, Ok, Err, codes, ⊤}
+use Rattle.std.specs.Prelude.{◌≡◌, ℕ, List, false, true, Ok, Err, ⊤}
 use Rattle.script_form.specs.declared.config.Config.{Config}
+use Rattle.script_form.specs.declared.config.ConfigFault.{ConfigFault}
 use Rattle.script_form.specs.declared.script.Line.{Line}
 use Rattle.script_form.specs.declared.script.LineFault.{LineFault}
 use Rattle.script_form.specs.Lines.{too_large, script_lines}
 use Rattle.script_form.specs.ReadConfig.{config_of}
-use Rattle.script_form.specs.ReadScript.{script_of}
+use Rattle.script_form.specs.declared.script.ScriptRefusal.TheVariants as script_refusal
+use Rattle.script_form.specs.declared.config.ConfigRefusal.TheVariants as config_refusal
 use Rattle.run_laws.specs.Rows.{Output}
 use Rattle.run_laws.specs.Lawful.{Lawful}
 use Rattle.run_laws.specs.OutputText.{output_text}
+use Rattle.solr_cli.specs.BuiltForms.{built_script}
 use Rattle.solr_cli.specs.declared.status.Status.{Status}
 use Rattle.solr_cli.specs.declared.status.Status.TheVariants as status
 
 -- the input lies within the limits, and reads to this configuration and this script
 pub record ReadsTo (input : List ℕ) (c : Config) (ls : List Line) : Type 0 where
   pub within : too_large input ≡ false
-  pub config : config_of input ≡ Some c
-  pub script : script_of c.schema (script_lines input) ≡ Ok ls
+  pub config : config_of input ≡ Ok c
+  pub script : built_script c.schema (script_lines input) ≡ Ok ls
+
+-- the first check of the configuration that fails
+pub record IsBadConfig (input : List ℕ) (fault : ConfigFault) : Type 0 where
+  pub within : too_large input ≡ false
+  pub config : config_of input ≡ Err (config_refusal.Fault fault)
 
 -- the script's first fault
 pub record IsBadLine (input : List ℕ) (c : Config) (fault : LineFault) : Type 0 where
   pub within : too_large input ≡ false
-  pub config : config_of input ≡ Some c
-  pub script : script_of c.schema (script_lines input) ≡ Err fault
+  pub config : config_of input ≡ Ok c
+  pub script : built_script c.schema (script_lines input) ≡ Err (script_refusal.Fault fault)
 
 -- why an input is refused: each status has its cause in the bytes, and want of memory is free
 abbrev pub IsRefusal : List ℕ → Status → Type 0
-IsRefusal input (status.BadConfig at name) = (too_large input ≡ false) × (config_of input ≡ None) × (at ≡ 0) × (name ≡ codes "config")
+IsRefusal input (status.BadConfig at name) = IsBadConfig input (record { at = at; name = name })
 IsRefusal input (status.BadLine line name) = (config : Config) × IsBadLine input config (record { line = line; name = name })
 IsRefusal input status.TooLarge = too_large input ≡ true
 IsRefusal input status.NoMemory = ⊤

@@ -2,16 +2,15 @@ ghost use Rattle.std.specs.Prelude.{◌≡◌, MatchResult};
 ghost use Rattle.client_runner.specs.Outputs.{output_view};
 ghost use Rattle.solr_cli.specs.Answering.{IsAnswer, IsRefusal, ReadsTo};
 
+use crate::built::read_built;
 use crate::status::Status;
 use client_runner::{Output, output_text, run_script};
 use field_schema::Text;
 use rt_edge::Gate;
-use script_form::{
-    Config, ConfigRefusal, Script, ScriptRefusal, read_config, read_script, too_large,
-};
+use script_form::{Config, ConfigRefusal, Script, ScriptRefusal, read_config, too_large};
 use std::alloc::Global;
 
-/// The configuration and the script of an input, or the first status that refuses it.
+// The configuration and the script of an input, or the first status that refuses it.
 fn read_input(alloc: Global, bytes: &[u8]) -> Result<(Config, Script), Status>
     ensures { MatchResult result (λ r. ReadsTo bytes.now r.0 r.1) (IsRefusal bytes.now) }
 {
@@ -28,7 +27,7 @@ fn read_input(alloc: Global, bytes: &[u8]) -> Result<(Config, Script), Status>
         }
         Err(ConfigRefusal::NoMemory) => return Err(Status::NoMemory),
     };
-    match read_script(alloc, &config.schema, &bytes[begin..]) {
+    match read_built(alloc, &config.schema, &bytes[begin..]) {
         Ok(script) => Ok((config, script)),
         Err(ScriptRefusal::Fault(fault)) => Err(Status::BadLine {
             line: fault.line,
@@ -38,7 +37,7 @@ fn read_input(alloc: Global, bytes: &[u8]) -> Result<(Config, Script), Status>
     }
 }
 
-/// Runs an input: its output and the output's text, or the first status that refuses it.
+// Runs an input: its output and the output's text, or the first status that refuses it.
 pub(crate) fn answer<G: Gate>(
     alloc: Global,
     bytes: &[u8],

@@ -4,6 +4,7 @@
 ghost use Rattle.std.specs.Prelude.{◌≡◌, drop};
 
 mod answer;
+mod built;
 mod reading;
 mod status;
 #[cfg(test)]
@@ -20,7 +21,7 @@ use std::io::ErrorKind;
 use std::process::ExitCode;
 pub use top::{Ran, run_top};
 
-/// The words of the command line, the program's name first; none of them where one of them is no text.
+// The words of the command line, the program's name first; none of them where one of them is no text.
 fn all_words(rt: &(impl Env + AllocGlobal)) -> Result<Vec<String>, NoMemory> {
     let mut words = Vec::new(rt.alloc());
     match env::args(rt) {
@@ -38,7 +39,7 @@ fn all_words(rt: &(impl Env + AllocGlobal)) -> Result<Vec<String>, NoMemory> {
     Ok(words)
 }
 
-/// The words behind the first, which is the program's name.
+// The words behind the first, which is the program's name.
 fn behind_name(words: &[String]) -> &[String]
     ensures { result.now ≡ drop 1 words.now }
 {

@@ -6,20 +6,20 @@ ghost use Rattle.solr_cli.specs.Reading.{FailsByRise, HasRead};
 use rt_edge::Source;
 use std::alloc::Global;
 
-/// The greatest number of bytes of an input.
+// The greatest number of bytes of an input.
 const MOST_INPUT: usize = 16_777_216;
 
-/// How many bytes are asked for at a time.
+// How many bytes are asked for at a time.
 const PIECE: usize = 65_536;
 
-/// Why an input was not read.
+// Why an input was not read.
 #[derive(Clone, Copy, Debug, PartialEq, Eq)]
 pub(crate) enum ReadRefusal {
     Fault,
     NoMemory,
 }
 
-/// A piece of memory to read into.
+// A piece of memory to read into.
 fn make_piece(alloc: Global) -> Result<Vec<u8>, ReadRefusal>
     ensures len { IfOk result (λ v. vec_len v ≡ PIECE) }
     ensures fault { result ≢ Err ReadRefusal.Fault }
@@ -30,7 +30,7 @@ fn make_piece(alloc: Global) -> Result<Vec<u8>, ReadRefusal>
     }
 }
 
-/// Reads the next bytes to the end of `bytes`, and says how many they are; 0 is the end.
+// Reads the next bytes to the end of `bytes`, and says how many they are; 0 is the end.
 fn read_more<S: Source>(
     input: &mut S,
     bytes: &mut Vec<u8>,
@@ -52,7 +52,7 @@ fn read_more<S: Source>(
     }
 }
 
-/// Reads an input to its end, or to one byte over the greatest input. Each turn takes a byte or more.
+// Reads an input to its end, or to one byte over the greatest input. Each turn takes a byte or more.
 pub(crate) fn read_all<S: Source>(alloc: Global, input: &mut S) -> Result<Vec<u8>, ReadRefusal>
     ensures later { S.faults input.old ≤ S.faults input.new }
     ensures fault { FailsByRise (S.faults input.old) (S.faults input.new) result }

@@ -44,7 +44,7 @@ impl Status {
     }
 }
 
-/// The name of a line's fault.
+// The name of a line's fault.
 fn line_name(name: LineName) -> &'static str
     ensures { result.now ≡ name_of name }
 {

@@ -23,7 +23,7 @@ pub struct Ran {
     pub output: Option<Output>,
 }
 
-/// Whether the words are exactly `run`. It takes no memory.
+// Whether the words are exactly `run`. It takes no memory.
 fn are_run(words: &[String]) -> bool
     ensures { result ≡ is_run (map string_bytes words.now) }
 {
@@ -33,7 +33,7 @@ fn are_run(words: &[String]) -> bool
     }
 }
 
-/// Reads an input to its end and runs it.
+// Reads an input to its end and runs it.
 fn run_input<S: Source, G: Gate>(
     alloc: Global,
     input: &mut S,

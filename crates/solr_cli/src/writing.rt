@@ -5,7 +5,7 @@ ghost use Rattle.solr_cli.specs.Writing.{AppendsPart};
 
 use rt_edge::{Failed, Sink};
 
-/// Writes all of a text: each write is lent all that is not yet written.
+// Writes all of a text: each write is lent all that is not yet written.
 fn write_all<K: Sink>(out: &mut K, text: &[u8]) -> Result<(), Failed>
     ensures ok { OnOk result (Appends (K.held out.old) (K.held out.new) text.now) }
     ensures err { OnErr result (AppendsPart (K.held out.old) (K.held out.new) text.now) }
@@ -19,7 +19,7 @@ fn write_all<K: Sink>(out: &mut K, text: &[u8]) -> Result<(), Failed>
     Ok(())
 }
 
-/// Writes all of a text, and flushes once. After a fault a front of the text was written.
+// Writes all of a text, and flushes once. After a fault a front of the text was written.
 pub(crate) fn write_text<K: Sink>(out: &mut K, text: &[u8]) -> Result<(), Failed>
     ensures ok { OnOk result (Appends (K.held out.old) (K.held out.new) text.now) }
     ensures err { OnErr result (AppendsPart (K.held out.old) (K.held out.new) text.now) }
