@@ -12,6 +12,7 @@ pub mod Served
 pub mod Counted
 pub mod Lives
 pub mod Tickets
+pub mod Rising
 pub mod SerialLawful
 pub mod Replies
 pub mod Rooms

@@ -5,6 +5,7 @@
 
 mod index;
 mod laws;
+mod order;
 mod output;
 mod reply;
 mod rows;
