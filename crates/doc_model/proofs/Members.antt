@@ -1,6 +1,7 @@
 -- The walk over the members of an object.
-use Rattle.std.proofs.Common.{◌≡◌, ℕ, ◌+◌, Decides, zero, suc, ◌<◌, Bool, true, false, cond, not, ◌&&◌, ◌||◌, List, [], ◌∷◌, ◌++◌, length, take, map, add-one, Option, Some, None, option_and_then, unwrap_or, string_bytes, refl, sym, ap, ap₂, ◌∙◌, subst, arith, append_assoc, append-nil, IsTrue}
-use Rattle.std.specs.Prelude.{slice_get, slice_set}
+use Rattle.std.proofs.Common.{◌≡◌, ℕ, ◌+◌, Decides, zero, suc, ◌<◌, Bool, true, false, cond, not, ◌&&◌, ◌||◌, List, [], ◌∷◌, ◌++◌, length, take, map, add-one, Option, Some, None, Ok, Err, option_and_then, unwrap_or, string_bytes, refl, sym, ap, ap₂, ◌∙◌, subst, arith, append_assoc, append-nil, IsTrue}
+use Rattle.std.specs.Prelude.{slice_get, slice_set, ⊤}
+use Rattle.std.specs.Bool.{MatchBool}
 use Rattle.std.specs.List.{list_any, position_or_len}
 use Rattle.std.specs.List.Sorted.{IsStrictlySortedBy}
 use Rattle.std.specs.Map.{keys_of as names_of}
@@ -9,12 +10,14 @@ use Rattle.serde_json.specs.Data.{Data, Members, no_members, put}
 use Rattle.serde_json.specs.View.{view, members_view}
 use Rattle.serde_json.proofs.Views.{Entry, put_last, get_member-put, get_member-put_other}
 use Rattle.field_schema.specs.Bytes.{bytes_eq}
-use Rattle.field_schema.specs.Schema.{field_named, names_differ}
+use Rattle.field_schema.specs.Schema.{Fields, field_named, names_differ}
 use Rattle.field_schema.specs.declared.field.Field.{Field}
 use Rattle.field_schema.specs.declared.key.Key.{Key}
 use Rattle.std.specs.Cmp.Lexicographic.{bytes_decides}
 use Rattle.doc_model.specs.declared.doc.DocFault.{DocFault}
-use Rattle.doc_model.specs.ReadDoc.{member_values, values_of, member_fault, members_fault}
+use Rattle.field_schema.proofs.Readers.{ok_told, err_told, weaker}
+use Rattle.doc_model.specs.Readers.{member_or_fault}
+use Rattle.doc_model.specs.ReadDoc.{is_no_memory, member_values, values_of, members_fault, lacks_id, object_doc}
 
 -- ---- the field of a name
 
@@ -110,9 +113,12 @@ read_at fields name d i values (Some f) e h = (f, e, rw e at h)
 
 pub walk_on : (fields : List Field) (all left : List Entry) (d : List (List Key)) (e : Entry) (i : ℕ) (values : List Key)
     → IsTrue (names_differ fields) → IsStrictlySortedBy string_cmp (names_of all) → Walked fields all (e ∷ left) d
-    → field_named (string_bytes e.0) fields ≡ Some i → IsReadAt fields (string_bytes e.0) (view e.1) i values
-    → member_fault fields (string_bytes e.0) (view e.1) ≡ None → Walked fields all left (slice_set d i values)
-walk_on fields all left d e i values apart sorted w named read fine =
+    → field_named (string_bytes e.0) fields ≡ Some i → member_or_fault fields (string_bytes e.0) (view e.1) ≡ Ok (Some values)
+    → Walked fields all left (slice_set d i values)
+walk_on fields all left d e i values apart sorted w named told =
+    let parts = ok_told _ _ (Some values) told in
+    let fine = parts.0 in
+    let read : IsReadAt fields (string_bytes e.0) (view e.1) i values = rw named at parts.1 in
     let at = read_at fields (string_bytes e.0) (view e.1) i values _ refl read in
     let last = put_last w.done e left (subst (λ es. IsStrictlySortedBy string_cmp (names_of es)) w.parts sorted) in
     record {
@@ -124,9 +130,14 @@ walk_on fields all left d e i values apart sorted w named read fine =
           ∙ ap (λ ms. map (values_of ms) fields) last;
     }
 
-pub walk_fails : (fields : List Field) (all left : List Entry) (d : List (List Key)) (e : Entry) (x : DocFault) → Walked fields all (e ∷ left) d
-    → member_fault fields (string_bytes e.0) (view e.1) ≡ Some x → members_fault fields (members_view all) ≡ Some x
-walk_fails fields all left d e x w bad = w.fault ∙ rw bad refl
+walk_fails : (fields : List Field) (all left : List Entry) (d : List (List Key)) (e : Entry) (x : DocFault) → Walked fields all (e ∷ left) d
+    → member_or_fault fields (string_bytes e.0) (view e.1) ≡ Err x → members_fault fields (members_view all) ≡ Some x
+walk_fails fields all left d e x w bad = w.fault ∙ rw (err_told _ _ x bad) refl
+
+-- the same of the whole object
+pub walk_told : (s : Fields) (all left : List Entry) (d : List (List Key)) (e : Entry) (x : DocFault) → lacks_id s (members_view all) ≡ false → Walked s.list all (e ∷ left) d
+    → MatchBool (is_no_memory x) ⊤ (member_or_fault s.list (string_bytes e.0) (view e.1) ≡ Err x) → MatchBool (is_no_memory x) ⊤ (object_doc s (members_view all) ≡ Err x)
+walk_told s all left d e x some w told = weaker (is_no_memory x) (λ bad. rw (some, walk_fails s.list all left d e x w bad) refl) told
 
 pub walk_ends : (fields : List Field) (all : List Entry) (d : List (List Key)) → Walked fields all [] d
     → (members_fault fields (members_view all) ≡ None) × (d ≡ map (values_of (members_view all)) fields)

@@ -1,6 +1,6 @@
 -- The one value of the unique key.
-use Rattle.std.proofs.Common.{◌≡◌, ℕ, zero, suc, ◌+◌, ◌<◌, ◌≤◌, Bool, true, false, cond, not, ◌&&◌, ltb, lt-ltb, List, [], ◌∷◌, ◌++◌, length, map, get_or, Option, Some, None, option_and_then, option_map, unwrap_or, refl, sym, ap, ap₂, ◌∙◌, subst, arith, IsTrue, ◌⊎◌, inl, inr, Decides}
-use Rattle.std.specs.Prelude.{slice_get, slice_index_or, IsSomeAnd, nat_lt}
+use Rattle.std.proofs.Common.{◌≡◌, ℕ, zero, suc, ◌+◌, ◌<◌, ◌≤◌, Bool, true, false, cond, not, ◌&&◌, ltb, lt-ltb, List, [], ◌∷◌, ◌++◌, length, map, Option, Some, None, option_and_then, option_map, unwrap_or, refl, sym, ap, ◌∙◌, subst, arith, IsTrue, ◌⊎◌, inl, inr, Decides}
+use Rattle.std.specs.Prelude.{slice_get, IsSomeAnd, nat_lt}
 use Rattle.std.specs.Option.{option_map_or}
 use Rattle.std.specs.List.{list_all, position_or_len}
 use Rattle.std.specs.Ordering.{nat_cmp, match_ordering}
@@ -22,7 +22,7 @@ use Rattle.field_schema.specs.ReadSchema.{listed}
 use Rattle.field_schema.specs.ValueTexts.{truth_text}
 use Rattle.field_schema.specs.Values.{values_at}
 use Rattle.doc_model.specs.declared.doc.DocFault.{DocFault}
-use Rattle.doc_model.specs.Document.{Document, IsIdAt, with_id}
+use Rattle.doc_model.specs.Document.{IsIdAt, with_id}
 use Rattle.doc_model.specs.ReadDoc.{whole_text, one_value, scalar_values, list_values, member_values, values_fault, member_fault, members_fault, is_null, has_no_value, lacks_id, values_of}
 use Rattle.doc_model.proofs.Members.{not_among, both}
 

@@ -1,3 +1,4 @@
 pub mod Document
 pub mod ReadDoc
+pub mod Readers
 pub mod DocJson

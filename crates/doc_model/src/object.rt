@@ -1,5 +1,5 @@
 // The members of a document's object.
-ghost use Rattle.std.specs.Prelude.{◌≡◌, [], ⊤, List, Some, None, true, IfOk, IfErr, MatchResult, length, option_map, option_and_then, map, slice_get, Ok, Err};
+ghost use Rattle.std.specs.Prelude.{◌≡◌, [], ⊤, List, Some, None, true, IfOk, IfErr, MatchResult, length, option_map, map, ok_or};
 ghost use Rattle.std.specs.Bool.{MatchBool};
 ghost use Rattle.std.specs.Option.{option_map_or, option_copied};
 ghost use Rattle.serde_json.specs.Data.{no_members};
@@ -9,11 +9,13 @@ ghost use Rattle.serde_json.specs.Read.{read as read_text};
 ghost use Rattle.serde_json.specs.View.{view, members_view};
 ghost use Rattle.field_schema.specs.Schema.{field_named};
 ghost use Rattle.doc_model.specs.ReadDoc.{is_no_memory, member_values as values_of_member, too_long as first_too_long, values_fault, member_fault, has_no_value as has_nothing, lacks_id as lacks_an_id, values_of, object_doc};
+ghost use Rattle.field_schema.specs.Outcome.{Gives, GivesAs};
+ghost use Rattle.doc_model.specs.Readers.{object_of, member_or_fault, values_or_fault};
 ghost use Rattle.doc_model.specs.Document.{IsIdAt, with_id, str_text};
 ghost use Rattle.doc_model.specs.declared.doc.DocFault.TheVariants.{NotObject, UnknownField, BadValue, ManyValues};
 
 use crate::doc::DocFault;
-use crate::value::{Misfit, member_values};
+use crate::value::member_values;
 use field_schema::{Field, FieldNo, Key, NoMemory, Schema, Text};
 use serde_json::{Category, Error, Map, Value};
 use std::alloc::Global;
@@ -23,9 +25,7 @@ const MOST_BYTES: usize = 32766;
 
 // The members of the object that a text is.
 pub(crate) fn read_members(alloc: Global, body: &str) -> Result<Map<String, Value>, DocFault>
-    ensures { MatchResult result
-        (λ m. option_and_then as_object (read_text body.now) ≡ Some (members_view m.entries))
-        (λ e. MatchBool (is_no_memory e) ⊤ ((e ≡ NotObject) × (option_and_then as_object (read_text body.now) ≡ None))) }
+    ensures { GivesAs (λ m. members_view m.entries) is_no_memory result (object_of body.now) }
 {
     match Value::from_str(alloc, body) {
         Ok(value) => object_members(value),
@@ -35,8 +35,8 @@ pub(crate) fn read_members(alloc: Global, body: &str) -> Result<Map<String, Valu
 
 // The members of an object.
 fn object_members(value: Value) -> Result<Map<String, Value>, DocFault>
-    ensures { MatchResult result (λ m. as_object (view value) ≡ Some (members_view m.entries))
-        (λ e. (e ≡ NotObject) × (as_object (view value) ≡ None)) }
+    ensures { GivesAs (λ m. members_view m.entries) is_no_memory result
+        (ok_or (as_object (view value)) NotObject) }
 {
     match value {
         Value::Object(members) => Ok(members),
@@ -61,9 +61,8 @@ pub(crate) fn read_object(
     schema: &Schema,
     members: &Map<String, Value>,
 ) -> Result<Vec<Vec<Key>>, DocFault>
-    ensures read { MatchResult result
-        (λ d. object_doc schema.now (members_view members.now.entries) ≡ Ok (with_id (map (λ v. v.items) d.items) schema.now.key))
-        (λ e. MatchBool (is_no_memory e) ⊤ (object_doc schema.now (members_view members.now.entries) ≡ Err e)) }
+    ensures read { GivesAs (λ d. with_id (map (λ v. v.items) d.items) schema.now.key) is_no_memory result
+        (object_doc schema.now (members_view members.now.entries)) }
     ensures id { IfOk result (λ d. IsIdAt (with_id (map (λ v. v.items) d.items) schema.now.key) schema.now.key) }
 {
     let key = schema.key_field();
@@ -127,65 +126,41 @@ fn read_member(
     value: &Value,
 ) -> Result<(FieldNo, Vec<Key>), DocFault>
     ensures place { IfOk result (λ p. field_named name.now schema.now.list ≡ Some p.0) }
-    ensures values { IfOk result (λ p. option_and_then (λ f. values_of_member f.kind (view value.now)) (slice_get schema.now.list p.0) ≡ Some p.1.items) }
-    ensures fine { IfOk result (λ p. member_fault schema.now.list name.now (view value.now) ≡ None) }
-    ensures fault { IfErr result (λ e. MatchBool (is_no_memory e) ⊤ (member_fault schema.now.list name.now (view value.now) ≡ Some e)) }
+    ensures read { GivesAs (λ p. Some p.1.items) is_no_memory result
+        (member_or_fault schema.now.list name.now (view value.now)) }
 {
-    let Some(number) = schema.field(name) else {
-        return Err(unknown_field(alloc, name));
-    };
-    let Some(field) = schema.get(number) else {
-        return Err(unknown_field(alloc, name));
-    };
-    let values = field_values(alloc, field, value)?;
-    Ok((number, values))
+    let number = named_field(alloc, schema, name)?;
+    match schema.get(number) {
+        Some(field) => Ok((number, field_values(alloc, field, value)?)),
+        None => unreachable!(),
+    }
 }
 
-// The fault of a member whose name no field has.
-fn unknown_field(alloc: Global, name: &str) -> DocFault
-    ensures { MatchBool (is_no_memory result) ⊤ (result ≡ UnknownField name.now) }
+// The place of the field of a member's name.
+fn named_field(alloc: Global, schema: &Schema, name: &str) -> Result<FieldNo, DocFault>
+    ensures { Gives is_no_memory result (ok_or (field_named name.now schema.now.list) (UnknownField name.now)) }
 {
-    match Text::from_str(alloc, name) {
-        Ok(name) => DocFault::UnknownField { name },
-        Err(_) => DocFault::NoMemory,
+    match schema.field(name) {
+        Some(number) => Ok(number),
+        None => Err(DocFault::UnknownField {
+            name: Text::from_str(alloc, name)?,
+        }),
     }
 }
 
 // The values of a member in its field.
 fn field_values(alloc: Global, field: &Field, value: &Value) -> Result<Vec<Key>, DocFault>
-    ensures values { IfOk result (λ values. values_of_member field.now.kind (view value.now) ≡ Some values.items) }
-    ensures fine { IfOk result (λ values. values_fault field.now (values_of_member field.now.kind (view value.now)) ≡ None) }
-    ensures fault { IfErr result (λ e. MatchBool (is_no_memory e) ⊤ (values_fault field.now (values_of_member field.now.kind (view value.now)) ≡ Some e)) }
+    ensures { GivesAs (λ v. v.items) is_no_memory result (values_or_fault field.now (view value.now)) }
 {
-    let values = match member_values(alloc, field.kind, value) {
-        Ok(values) => values,
-        Err(Misfit::WrongType) => return Err(bad_value(alloc, field)),
-        Err(Misfit::NoMemory) => return Err(DocFault::NoMemory),
-    };
+    let values = member_values(alloc, field, value)?;
     if !field.multi && values.len() > 1 {
-        return Err(many_values(alloc, field));
+        return Err(DocFault::ManyValues {
+            field: field.name.copy(alloc)?,
+        });
     }
     match too_long(values.as_slice()) {
         Some(bytes) => Err(DocFault::TooLong { bytes }),
         None => Ok(values),
-    }
-}
-
-fn bad_value(alloc: Global, field: &Field) -> DocFault
-    ensures { MatchBool (is_no_memory result) ⊤ (result ≡ BadValue field.now.name) }
-{
-    match field.name.copy(alloc) {
-        Ok(field) => DocFault::BadValue { field },
-        Err(_) => DocFault::NoMemory,
-    }
-}
-
-fn many_values(alloc: Global, field: &Field) -> DocFault
-    ensures { MatchBool (is_no_memory result) ⊤ (result ≡ ManyValues field.now.name) }
-{
-    match field.name.copy(alloc) {
-        Ok(field) => DocFault::ManyValues { field },
-        Err(_) => DocFault::NoMemory,
     }
 }
 

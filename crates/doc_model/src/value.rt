@@ -2,66 +2,48 @@
 ghost use Rattle.std.specs.Prelude.{◌≡◌, ◌++◌, List, Some, None, IfOk, MatchResult, IsSome, [], ◌∷◌, option_map, option_to_list, map, string_bytes};
 ghost use Rattle.serde_json.specs.View.{view, number_view};
 ghost use Rattle.field_schema.specs.declared.key.Key.{Key};
-ghost use Rattle.doc_model.specs.ReadDoc.{whole_text as text_of_whole, text_value as value_of_text, number_value as value_of_number, truth_value as value_of_truth, scalar_values, list_values, member_values as values_of_member};
-ghost use Rattle.doc_model.specs.declared.value.Misfit.TheVariants.{WrongType};
+ghost use Rattle.field_schema.specs.Outcome.{GivesAs};
+ghost use Rattle.doc_model.specs.Readers.{of_type};
+ghost use Rattle.doc_model.specs.ReadDoc.{is_no_memory, whole_text as text_of_whole, text_value as value_of_text, number_value as value_of_number, truth_value as value_of_truth, scalar_values, list_values, member_values as values_of_member};
 
-use field_schema::{FieldType, Key, NoMemory, Text, begins_true, long_text, truth_text};
+use crate::doc::DocFault;
+use field_schema::{Field, FieldType, Key, NoMemory, Text, begins_true, long_text, truth_text};
 use serde_json::{Number, Value};
 use std::alloc::Global;
-
-/// Why a value is none of a field.
-#[derive(Debug, Drop)]
-pub(crate) enum Misfit {
-    /// It is none of the field's type.
-    WrongType,
-    /// Memory was wanting.
-    NoMemory,
-}
-
-impl From<NoMemory> for Misfit {
-    ghost use Rattle.std.specs.Prelude.{◌≡◌};
-    ghost use Rattle.doc_model.specs.declared.value.Misfit.TheVariants as misfit;
-
-    ghost from_gives = { λ _ e. e ≡ misfit.NoMemory };
-
-    fn from(_error: NoMemory) -> Misfit {
-        Misfit::NoMemory
-    }
-}
 
 // The values of a member in turn; a list's values are not lists.
 pub(crate) fn member_values(
     alloc: Global,
-    kind: FieldType,
+    field: &Field,
     value: &Value,
-) -> Result<Vec<Key>, Misfit>
-    ensures { MatchResult result (λ found. values_of_member kind (view value.now) ≡ Some found.items)
-        (λ e. e ≡ WrongType → values_of_member kind (view value.now) ≡ None) }
+) -> Result<Vec<Key>, DocFault>
+    ensures { GivesAs (λ v. v.items) is_no_memory result
+        (of_type field.now (values_of_member field.now.kind (view value.now))) }
 {
     match value {
-        Value::Array(values) => array_values(alloc, kind, values.as_slice()),
-        _ => lone_values(alloc, kind, value),
+        Value::Array(values) => array_values(alloc, field, values.as_slice()),
+        _ => lone_values(alloc, field, value),
     }
 }
 
 // The values of a member that is no list.
-fn lone_values(alloc: Global, kind: FieldType, value: &Value) -> Result<Vec<Key>, Misfit>
-    ensures { MatchResult result (λ found. scalar_values kind (view value.now) ≡ Some found.items)
-        (λ e. e ≡ WrongType → scalar_values kind (view value.now) ≡ None) }
+fn lone_values(alloc: Global, field: &Field, value: &Value) -> Result<Vec<Key>, DocFault>
+    ensures { GivesAs (λ v. v.items) is_no_memory result
+        (of_type field.now (scalar_values field.now.kind (view value.now))) }
 {
     let mut found = Vec::new(alloc);
-    add_value(&mut found, scalar_value(alloc, kind, value)?)?;
+    add_value(&mut found, scalar_value(alloc, field, value)?)?;
     Ok(found)
 }
 
 // The values of a list.
-fn array_values(alloc: Global, kind: FieldType, values: &[Value]) -> Result<Vec<Key>, Misfit>
-    ensures { MatchResult result (λ found. list_values kind (map view values.now) ≡ Some found.items)
-        (λ e. e ≡ WrongType → list_values kind (map view values.now) ≡ None) }
+fn array_values(alloc: Global, field: &Field, values: &[Value]) -> Result<Vec<Key>, DocFault>
+    ensures { GivesAs (λ v. v.items) is_no_memory result
+        (of_type field.now (list_values field.now.kind (map view values.now))) }
 {
     let mut found = Vec::new(alloc);
     for value in values {
-        add_value(&mut found, scalar_value(alloc, kind, value)?)?;
+        add_value(&mut found, scalar_value(alloc, field, value)?)?;
     }
     Ok(found)
 }
@@ -77,25 +59,22 @@ fn add_value(found: &mut Vec<Key>, value: Option<Key>) -> Result<(), NoMemory>
 }
 
 // The value that is no list; null is none.
-fn scalar_value(alloc: Global, kind: FieldType, value: &Value) -> Result<Option<Key>, Misfit>
-    ensures { MatchResult result (λ k. scalar_values kind (view value.now) ≡ Some (option_to_list k))
-        (λ e. e ≡ WrongType → scalar_values kind (view value.now) ≡ None) }
+fn scalar_value(alloc: Global, field: &Field, value: &Value) -> Result<Option<Key>, DocFault>
+    ensures { GivesAs option_to_list is_no_memory result
+        (of_type field.now (scalar_values field.now.kind (view value.now))) }
 {
-    match value {
-        Value::Null => Ok(None),
-        Value::Bool(truth) => of_type(truth_value(alloc, kind, *truth)?),
-        Value::Number(number) => of_type(number_value(alloc, kind, number)?),
-        Value::String(text) => of_type(text_value(alloc, kind, text.as_str())?),
-        Value::Array(_) | Value::Object(_) => Err(Misfit::WrongType),
-    }
-}
-
-fn of_type(key: Option<Key>) -> Result<Option<Key>, Misfit>
-    ensures { MatchResult result (λ k. (k ≡ key) × IsSome key) (λ e. key ≡ None) }
-{
-    match key {
+    let read = match value {
+        Value::Null => return Ok(None),
+        Value::Bool(truth) => truth_value(alloc, field.kind, *truth)?,
+        Value::Number(number) => number_value(alloc, field.kind, number)?,
+        Value::String(text) => text_value(alloc, field.kind, text.as_str())?,
+        Value::Array(_) | Value::Object(_) => None,
+    };
+    match read {
         Some(key) => Ok(Some(key)),
-        None => Err(Misfit::WrongType),
+        None => Err(DocFault::BadValue {
+            field: field.name.copy(alloc)?,
+        }),
     }
 }
 

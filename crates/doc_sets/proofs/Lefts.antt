@@ -4,7 +4,7 @@ use Rattle.std.specs.Int.{bit_at, trailing_zeros}
 use Rattle.std.proofs.lemmas.Nat.Bits.{bit_at-trailing_zeros, bit_at-zero}
 use Rattle.std.proofs.lemmas.Bool.{cases_lt, cases_order, cases_eq, eq-eqb, ne_eqb, both_ways}
 use Rattle.doc_sets.specs.Sets.{is_in, Rises}
-use Rattle.doc_sets.specs.Rows.{has_bit, numbers_of}
+use Rattle.doc_sets.specs.BitRows.{has_bit, numbers_of}
 use Rattle.doc_sets.specs.Left.{numbers_left}
 use Rattle.doc_sets.proofs.Bits.{has_bit-is, has_bit-past, is_in-numbers_of, Rises-numbers_of, numbers_of-same}
 use Rattle.doc_sets.proofs.Rising.{Rises-lower, is_in-below}

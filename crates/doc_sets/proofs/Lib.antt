@@ -2,7 +2,7 @@ pub mod BitChanges
 pub mod Bits
 pub mod Counting
 pub mod Empty
-pub mod Kept
+pub mod FormOfSet
 pub mod Lefts
 pub mod Lowest
 pub mod Members

@@ -4,7 +4,7 @@ use Rattle.std.specs.Ordering.{nat_cmp}
 use Rattle.std.specs.Cmp.{nat_cmp_total}
 use Rattle.std.specs.FinSet.{contains, len, from_list, union, intersection, difference, contains-from_list_nat, contains-union, contains-intersection, contains-difference, len-empty, len-insert, same_set, nat_cmp-IsAntisymmetric}
 use Rattle.doc_sets.specs.Sets.{Numbers, members_below, members, AreDocuments, is_in, Rises, IsAscending}
-use Rattle.doc_sets.specs.Rows.{has_bit, numbers_of}
+use Rattle.doc_sets.specs.BitRows.{has_bit, numbers_of}
 use Rattle.doc_sets.specs.declared.TheConstants.{MAX_DOCS}
 use Rattle.doc_sets.proofs.Rising.{is_in-below, is_in-within, is_in-filter, is_in-filter-range, Rises-filter, Rises-filter-range, same_rising}
 use Rattle.doc_sets.proofs.Bits.{is_in-numbers_of}

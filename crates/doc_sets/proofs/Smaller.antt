@@ -2,7 +2,7 @@
 use Rattle.std.proofs.Common.{◌≡◌, ℕ, ◌*◌, ◌<◌, ◌≤◌, true, false, List, length, nat_lt, sym, subst, arith}
 use Rattle.std.proofs.lemmas.Bool.{ltb-true, ltb-false}
 use Rattle.doc_sets.specs.Sets.{is_in, IsAscending}
-use Rattle.doc_sets.specs.Rows.{has_bit, numbers_of, Reaches}
+use Rattle.doc_sets.specs.BitRows.{has_bit, numbers_of, Reaches}
 use Rattle.doc_sets.specs.Forms.{IsShortList, IsShortRow}
 use Rattle.doc_sets.specs.declared.TheConstants.{MAX_DOCS}
 use Rattle.doc_sets.proofs.Bits.{numbers_of-same}

@@ -2,7 +2,7 @@
 use Rattle.std.specs.Prelude.{ℕ, ◌*◌, ◌<◌, ◌≤◌, List, length}
 use Rattle.std.specs.FinSet.{from_list}
 use Rattle.doc_sets.specs.Sets.{Numbers, IsAscending}
-use Rattle.doc_sets.specs.Rows.{numbers_of, Reaches}
+use Rattle.doc_sets.specs.BitRows.{numbers_of, Reaches}
 use Rattle.doc_sets.specs.declared.doc_set.Form.{Form}
 use Rattle.doc_sets.specs.declared.doc_set.Form.TheVariants.{Listed, Bits}
 

@@ -1,6 +1,6 @@
 -- What is left of a walk along a row.
 use Rattle.std.specs.Prelude.{ℕ, ◌+◌, List, ◌∷◌, map}
-use Rattle.doc_sets.specs.Rows.{numbers_of}
+use Rattle.doc_sets.specs.BitRows.{numbers_of}
 
 -- the numbers of a word and the words after it, where the word's lowest bit stands for `base`
 unfoldable pub numbers_left : ℕ → ℕ → List ℕ → List ℕ

@@ -3,11 +3,11 @@ ghost use Rattle.std.specs.List.Sorted.{IsStrictlyIncreasing};
 ghost use Rattle.std.specs.FinSet as set;
 ghost use Rattle.doc_sets.specs.Sets.{AreDocuments, members, IsAscending, IsListing};
 ghost use Rattle.doc_sets.specs.declared.TheConstants.{MAX_DOCS};
-ghost use Rattle.doc_sets.specs.Rows.{numbers_of};
+ghost use Rattle.doc_sets.specs.BitRows.{numbers_of};
 ghost use Rattle.doc_sets.specs.Forms.{IsShortList, IsShortRow};
 
 use crate::walk::DocSetIter;
-use crate::{DocNo, NoMemory, listed, rows};
+use crate::{DocNo, NoMemory, bit_rows, listed};
 use std::alloc::Global;
 use std::marker::Model;
 
@@ -63,8 +63,8 @@ impl DocSet {
         requires documents { All (λ n. n < MAX_DOCS) numbers.now }
         ensures { IfOk result (λ s. s ≡ set.from_list numbers.now) }
     {
-        if bits_are_smaller(numbers.len(), rows::words_for(numbers)) {
-            let words = rows::row_of(alloc, numbers)?;
+        if bits_are_smaller(numbers.len(), bit_rows::words_for(numbers)) {
+            let words = bit_rows::row_of(alloc, numbers)?;
             Ok(of_row(words))
         } else {
             let numbers = numbers.to_vec(alloc)?;
@@ -84,13 +84,13 @@ impl DocSet {
                 settled_list(alloc, listed::common(alloc, left, right)?)
             }
             (Form::Listed(numbers), Form::Bits(words)) => {
-                settled_list(alloc, rows::common_of_list(alloc, numbers, words)?)
+                settled_list(alloc, bit_rows::common_of_list(alloc, numbers, words)?)
             }
             (Form::Bits(words), Form::Listed(numbers)) => {
-                settled_list(alloc, rows::common_of_list(alloc, numbers, words)?)
+                settled_list(alloc, bit_rows::common_of_list(alloc, numbers, words)?)
             }
             (Form::Bits(left), Form::Bits(right)) => {
-                settled_row(alloc, rows::common(alloc, left, right)?)
+                settled_row(alloc, bit_rows::common(alloc, left, right)?)
             }
         }
     }
@@ -107,13 +107,13 @@ impl DocSet {
                 settled_list(alloc, listed::either(alloc, left, right)?)
             }
             (Form::Listed(numbers), Form::Bits(words)) => {
-                settled_row(alloc, rows::with(alloc, words, numbers)?)
+                settled_row(alloc, bit_rows::with(alloc, words, numbers)?)
             }
             (Form::Bits(words), Form::Listed(numbers)) => {
-                settled_row(alloc, rows::with(alloc, words, numbers)?)
+                settled_row(alloc, bit_rows::with(alloc, words, numbers)?)
             }
             (Form::Bits(left), Form::Bits(right)) => {
-                settled_row(alloc, rows::either(alloc, left, right)?)
+                settled_row(alloc, bit_rows::either(alloc, left, right)?)
             }
         }
     }
@@ -130,13 +130,13 @@ impl DocSet {
                 settled_list(alloc, listed::without(alloc, left, right)?)
             }
             (Form::Listed(numbers), Form::Bits(words)) => {
-                settled_list(alloc, rows::list_without(alloc, numbers, words)?)
+                settled_list(alloc, bit_rows::list_without(alloc, numbers, words)?)
             }
             (Form::Bits(words), Form::Listed(numbers)) => {
-                settled_row(alloc, rows::without_list(alloc, words, numbers)?)
+                settled_row(alloc, bit_rows::without_list(alloc, words, numbers)?)
             }
             (Form::Bits(left), Form::Bits(right)) => {
-                settled_row(alloc, rows::without(alloc, left, right)?)
+                settled_row(alloc, bit_rows::without(alloc, left, right)?)
             }
         }
     }
@@ -158,7 +158,7 @@ impl DocSet {
     {
         match &self.form {
             Form::Listed(numbers) => listed::has(numbers, number),
-            Form::Bits(words) => rows::has(words, number),
+            Form::Bits(words) => bit_rows::has(words, number),
         }
     }
 
@@ -176,7 +176,7 @@ impl DocSet {
 
 #[cfg(test)]
 impl DocSet {
-    /// How many bytes the members take, and whether they are kept as bits.
+    // How many bytes the members take, and whether they are kept as bits.
     pub(crate) fn form(&self) -> (usize, bool) {
         match &self.form {
             Form::Listed(numbers) => (numbers.capacity().saturating_mul(4), false),
@@ -185,7 +185,7 @@ impl DocSet {
     }
 }
 
-/// Whether a list of `count` numbers of 32 bits is larger than a row of `words`.
+// Whether a list of `count` numbers of 32 bits is larger than a row of `words`.
 fn bits_are_smaller(count: usize, words: usize) -> bool
     requires { words ≤ 4096 }
     ensures { result ≡ nat_lt (2 * words) count }
@@ -193,7 +193,7 @@ fn bits_are_smaller(count: usize, words: usize) -> bool
     count > 2 * words
 }
 
-/// The set of ascending numbers, as a list.
+// The set of ascending numbers, as a list.
 fn of_list(numbers: Vec<DocNo>) -> DocSet
     requires rises { IsAscending numbers.items }
     requires short { IsShortList numbers.items }
@@ -206,45 +206,45 @@ fn of_list(numbers: Vec<DocNo>) -> DocSet
     }
 }
 
-/// The set of a row, as bits.
+// The set of a row, as bits.
 fn of_row(words: Vec<u64>) -> DocSet
     requires few { vec_len words ≤ 4096 }
     requires short { IsShortRow words.items }
     ensures { result ≡ set.from_list (numbers_of words.items) }
 {
-    let count = rows::count(&words);
+    let count = bit_rows::count(&words);
     DocSet {
         form: Form::Bits(words),
         count,
     }
 }
 
-/// The set of ascending numbers, in the smaller form.
+// The set of ascending numbers, in the smaller form.
 fn settled_list(alloc: Global, numbers: Vec<DocNo>) -> Result<DocSet, NoMemory>
     requires { IsAscending numbers.items }
     ensures { IfOk result (λ s. s ≡ set.from_list numbers.items) }
 {
-    if bits_are_smaller(numbers.len(), rows::words_for(&numbers)) {
-        let words = rows::row_of(alloc, &numbers)?;
+    if bits_are_smaller(numbers.len(), bit_rows::words_for(&numbers)) {
+        let words = bit_rows::row_of(alloc, &numbers)?;
         Ok(of_row(words))
     } else {
         Ok(of_list(numbers))
     }
 }
 
-/// The set of a row, in the smaller form.
+// The set of a row, in the smaller form.
 fn settled_row(alloc: Global, mut words: Vec<u64>) -> Result<DocSet, NoMemory>
     requires { vec_len words ≤ 4096 }
     ensures { IfOk result (λ s. s ≡ set.from_list (numbers_of words.items)) }
 {
-    rows::trim(&mut words);
-    let count = rows::count(&words);
+    bit_rows::trim(&mut words);
+    let count = bit_rows::count(&words);
     if bits_are_smaller(count as usize, words.len()) {
         Ok(DocSet {
             form: Form::Bits(words),
             count,
         })
     } else {
-        settled_list(alloc, rows::listing(alloc, &words, count)?)
+        settled_list(alloc, bit_rows::listing(alloc, &words, count)?)
     }
 }

@@ -10,7 +10,7 @@ use std::alloc::{AllocError, AllocFailed};
 mod doc_list;
 mod doc_set;
 mod listed;
-mod rows;
+mod bit_rows;
 #[cfg(test)]
 mod tests;
 mod walk;

@@ -6,7 +6,7 @@ ghost use Rattle.doc_sets.specs.declared.TheConstants.{MAX_DOCS};
 use crate::{DocNo, NoMemory};
 use std::alloc::Global;
 
-/// Whether the ascending `numbers` have `number`. Takes the logarithm of their count.
+// Whether the ascending `numbers` have `number`. Takes the logarithm of their count.
 pub fn has(numbers: &[DocNo], number: DocNo) -> bool
     requires { IsAscending numbers.now }
     ensures { result ≡ is_in numbers.now number }
@@ -14,7 +14,7 @@ pub fn has(numbers: &[DocNo], number: DocNo) -> bool
     numbers.binary_search(&number).is_ok()
 }
 
-/// What is left of the ascending `numbers` from `least` on.
+// What is left of the ascending `numbers` from `least` on.
 fn from_number(numbers: &[DocNo], least: DocNo) -> &[DocNo]
     requires { IsAscending numbers.now }
     ensures rises { Rises least MAX_DOCS result.now }
@@ -30,7 +30,7 @@ fn from_number(numbers: &[DocNo], least: DocNo) -> &[DocNo]
     rest
 }
 
-/// Whether `number` is the first of `numbers`, none of which is below it.
+// Whether `number` is the first of `numbers`, none of which is below it.
 fn starts_with(numbers: &[DocNo], number: DocNo) -> bool
     requires { Rises number MAX_DOCS numbers.now }
     ensures { result ≡ is_in numbers.now number }
@@ -41,7 +41,7 @@ fn starts_with(numbers: &[DocNo], number: DocNo) -> bool
     }
 }
 
-/// The numbers of `left` that `right` has too, in one walk along both.
+// The numbers of `left` that `right` has too, in one walk along both.
 pub fn common(alloc: Global, left: &[DocNo], right: &[DocNo]) -> Result<Vec<DocNo>, NoMemory>
     requires left { IsAscending left.now }
     requires right { IsAscending right.now }
@@ -58,7 +58,7 @@ pub fn common(alloc: Global, left: &[DocNo], right: &[DocNo]) -> Result<Vec<DocN
     Ok(kept)
 }
 
-/// The numbers of `left` that `right` lacks, in one walk along both.
+// The numbers of `left` that `right` lacks, in one walk along both.
 pub fn without(alloc: Global, left: &[DocNo], right: &[DocNo]) -> Result<Vec<DocNo>, NoMemory>
     requires left { IsAscending left.now }
     requires right { IsAscending right.now }
@@ -75,7 +75,7 @@ pub fn without(alloc: Global, left: &[DocNo], right: &[DocNo]) -> Result<Vec<Doc
     Ok(kept)
 }
 
-/// The numbers of either list, in one walk along both.
+// The numbers of either list, in one walk along both.
 pub fn either(alloc: Global, left: &[DocNo], right: &[DocNo]) -> Result<Vec<DocNo>, NoMemory>
     requires left { IsAscending left.now }
     requires right { IsAscending right.now }

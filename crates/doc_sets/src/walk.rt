@@ -1,10 +1,10 @@
 //! Walks along a set's members, ascending.
 ghost use Rattle.std.specs.Prelude.{◌≡◌, ◌≤◌, length};
 ghost use Rattle.std.specs.Iterator.{YieldsFirst, item_count};
-ghost use Rattle.doc_sets.specs.Rows.{numbers_of};
+ghost use Rattle.doc_sets.specs.BitRows.{numbers_of};
 
 use crate::DocNo;
-use crate::rows::WORD_BITS;
+use crate::bit_rows::WORD_BITS;
 use std::marker::Model;
 
 /// The numbers of a row whose bits are set, seen as the list of those that are left.
@@ -93,7 +93,7 @@ impl<'a> Model for DocSetIter<'a> {
 }
 
 impl<'a> DocSetIter<'a> {
-    /// Walks along an ascending list.
+    // Walks along an ascending list.
     pub(crate) fn along_list(numbers: &'a [DocNo]) -> DocSetIter<'a>
         ensures { result ≡ numbers.now }
     {
@@ -102,7 +102,7 @@ impl<'a> DocSetIter<'a> {
         }
     }
 
-    /// Walks along a row.
+    // Walks along a row.
     pub(crate) fn along_row(words: &'a [u64]) -> DocSetIter<'a>
         requires { length words.now ≤ 4096 }
         ensures { result ≡ numbers_of words.now }

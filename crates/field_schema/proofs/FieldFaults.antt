@@ -22,6 +22,8 @@ use Rattle.field_schema.specs.Laws.{bytes_eq-same, bytes_eq-refl}
 use Rattle.field_schema.specs.Names.{is_field_name}
 use Rattle.field_schema.specs.Schema.{IsSchema, names_differ, can_be_key}
 use Rattle.field_schema.specs.ReadSchema.{is_no_memory, name_of, type_of, kind_named, flag_at, field_of, field_fault, first_fault, key_in, text_at}
+use Rattle.field_schema.specs.Readers.{field_or_fault, fields_or_fault}
+use Rattle.field_schema.proofs.Readers.{or_some, ok_told}
 
 list_any-map : {X Y : Type 0} (p : X → Bool) (h : Y → X) (ys : List Y) → list_any p (map h ys) ≡ list_any (λ y. p (h y)) ys
 list_any-map p h [] = refl
@@ -94,11 +96,11 @@ ok_or-Ok (Some x) e y h = cc
 
 -- what an object of a bad type is told
 pub type_told : (earlier : List Data) (d : Data) (name : List ℕ) (e : SchemaFault) → name ≡ name_of d → is_field_name (name_of d) ≡ true → leb 64 (length earlier) ≡ false
-    → ok_or (field_of d) (fault.BadType name) ≡ Err e → MatchBool (is_no_memory e) ⊤ (field_fault earlier d ≡ Some e)
+    → ok_or (field_of d) (fault.BadType name) ≡ Err e → MatchBool (is_no_memory e) ⊤ (field_or_fault earlier d ≡ Err e)
 type_told earlier d name e named good early h =
     let p = ok_or-Err (field_of d) (fault.BadType name) e h in
     let told : field_fault earlier d ≡ Some (fault.BadType name) = fault_type earlier d good early p.0 ∙ ap (λ n. Some (fault.BadType n)) (sym named) in
-    subst (λ x. MatchBool (is_no_memory x) ⊤ (field_fault earlier d ≡ Some x)) p.1 told
+    subst (λ x. MatchBool (is_no_memory x) ⊤ (field_or_fault earlier d ≡ Err x)) p.1 (or_some _ _ _ told)
 
 -- the same facts as the code meets them
 pub taken_told : (vs : List Value) (name : List ℕ) (r b : Bool) → r ≡ list_any (λ v. bytes_eq (name_of (view v)) name) vs → r ≡ b → is_taken (map view vs) name ≡ b
@@ -204,9 +206,16 @@ read-IsSchema ds d key h k = record {
 }
 
 -- the same of the fields that the code has read
-pub read_most : (fields : List Field) (ds : List Data) → first_fault [] ds ≡ None → fields ≡ filter_map field_of ds → length fields ≤ 64
-read_most fields ds h read = subst (λ l. length l ≤ 64) (sym read) (rw zero-add at (fields_most [] ds (omega arith) h))
+pub read_most : (fields : List Field) (ds : List Data) → fields_or_fault ds ≡ Ok fields → length fields ≤ 64
+read_most fields ds told =
+    let parts = ok_told _ _ fields told in
+    let h = parts.0 in
+    let read = sym parts.1 in
+    subst (λ l. length l ≤ 64) (sym read) (rw zero-add at (fields_most [] ds (omega arith) h))
 
-pub read_is : (fields : List Field) (ds : List Data) (d : Data) (key : ℕ) → first_fault [] ds ≡ None → fields ≡ filter_map field_of ds → key_in fields d ≡ Some key → IsSchema (record { list = fields; key = key })
-read_is fields ds d key h read k =
+pub read_is : (fields : List Field) (ds : List Data) (d : Data) (key : ℕ) → fields_or_fault ds ≡ Ok fields → key_in fields d ≡ Some key → IsSchema (record { list = fields; key = key })
+read_is fields ds d key told k =
+    let parts = ok_told _ _ fields told in
+    let h = parts.0 in
+    let read = sym parts.1 in
     subst (λ l. IsSchema (record { list = l; key = key })) (sym read) (read-IsSchema ds d key h (sym (ap (λ l. key_in l d) read) ∙ k))

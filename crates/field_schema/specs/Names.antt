@@ -1,21 +1,16 @@
 -- Names of fields.
 use Rattle.std.specs.Prelude.{ℕ, List, [], ◌∷◌, length, Bool, false, not, ◌&&◌, ◌||◌, ◌==◌, nat_le, codes}
+use Rattle.std.specs.Char.{is_ascii_alphabetic, is_ascii_alphanumeric}
 use Rattle.std.specs.List.{list_all, list_any}
 use Rattle.field_schema.specs.Bytes.{bytes_eq}
 
-abbrev pub is_letter : ℕ → Bool
-is_letter c = (nat_le 65 c && nat_le c 90) || (nat_le 97 c && nat_le c 122)
-
-abbrev pub is_digit : ℕ → Bool
-is_digit c = nat_le 48 c && nat_le c 57
-
 -- a letter, a digit or `_`
 abbrev pub is_name_byte : ℕ → Bool
-is_name_byte c = is_letter c || (is_digit c || c == 95)
+is_name_byte c = is_ascii_alphanumeric c || c == 95
 
 abbrev pub begins_name : List ℕ → Bool
 begins_name [] = false
-begins_name (c ∷ cs) = is_letter c || c == 95
+begins_name (c ∷ cs) = is_ascii_alphabetic c || c == 95
 
 -- names that mean something else in a query or a sort
 abbrev pub reserved_names : List (List ℕ)

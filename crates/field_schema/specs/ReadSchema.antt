@@ -15,12 +15,8 @@ use Rattle.field_schema.specs.Schema.{Fields, can_be_key}
 
 -- want of memory is no fault of the value
 abbrev pub is_no_memory : SchemaFault → Bool
-is_no_memory fault.NotObject = false
-is_no_memory fault.NoUniqueKey = false
-is_no_memory (fault.BadName name) = false
-is_no_memory (fault.BadType name) = false
-is_no_memory (fault.Twice name) = false
 is_no_memory fault.NoMemory = true
+is_no_memory e = false
 
 abbrev pub listed : Items → List Data
 listed no_items = []

@@ -3,7 +3,7 @@ use Rattle.std.specs.Prelude.{ℕ, ◌≤◌, List, [], ◌∷◌, length, Bool,
 use Rattle.std.specs.List.{list_all, list_any}
 use Rattle.field_schema.specs.declared.field.Field.{Field}
 use Rattle.field_schema.specs.declared.field.FieldType.{FieldType}
-use Rattle.field_schema.specs.declared.field.FieldType.TheVariants.{Str, Long, Bool as Truth, Text}
+use Rattle.field_schema.specs.declared.field.FieldType.TheVariants.{Str}
 use Rattle.field_schema.specs.Bytes.{bytes_eq}
 use Rattle.field_schema.specs.Names.{is_field_name}
 
@@ -14,9 +14,7 @@ pub record Fields : Type 0 where
 
 abbrev pub is_str : FieldType → Bool
 is_str Str = true
-is_str Long = false
-is_str Truth = false
-is_str Text = false
+is_str k = false
 
 -- a field that can be the unique key
 abbrev pub can_be_key : Field → Bool

@@ -1,11 +1,11 @@
 -- The tokens of a text.
 use Rattle.std.specs.Prelude.{ℕ, List, [], ◌∷◌, Bool, true, false, ◌||◌, nat_le, if◌then◌else◌, filter, map}
 use Rattle.std.specs.Str.{str_to_ascii_lowercase}
-use Rattle.field_schema.specs.Names.{is_letter, is_digit}
+use Rattle.std.specs.Char.{is_ascii_alphanumeric}
 
 -- an ASCII letter or digit, or a byte of a character past ASCII
 abbrev pub is_token_byte : ℕ → Bool
-is_token_byte c = is_letter c || (is_digit c || nat_le 128 c)
+is_token_byte c = is_ascii_alphanumeric c || nat_le 128 c
 
 -- c in front of the first piece
 abbrev pub onto : ℕ → List (List ℕ) → List (List ℕ)

@@ -3,7 +3,9 @@ ghost use Rattle.std.specs.Bool.{MatchBool};
 ghost use Rattle.std.specs.List.{list_any, filter_map};
 ghost use Rattle.field_schema.specs.Bytes.{bytes_eq};
 ghost use Rattle.field_schema.specs.Schema.{is_str, can_be_key};
-ghost use Rattle.field_schema.specs.ReadSchema.{name_of, field_of, kind_named, field_fault, first_fault, key_in, is_no_memory};
+ghost use Rattle.field_schema.specs.Outcome.{GivesAs};
+ghost use Rattle.field_schema.specs.ReadSchema.{name_of, field_of, kind_named, key_in, is_no_memory};
+ghost use Rattle.field_schema.specs.Readers.{field_or_fault, fields_or_fault};
 ghost use Rattle.field_schema.specs.declared.schema.SchemaFault.TheVariants as fault;
 ghost use Rattle.serde_json.specs.View.{view};
 
@@ -20,10 +22,7 @@ const MOST_FIELDS: usize = 64;
 
 // The fields of a list of fields' objects, or the fault of the first that has one.
 pub(crate) fn read_fields(alloc: Global, list: &[Value]) -> Result<Vec<Field>, SchemaFault>
-    ensures faultless { IfOk result (λ v. first_fault [] (map view list.now) ≡ None) }
-    ensures fields { IfOk result (λ v. v.items ≡ filter_map field_of (map view list.now)) }
-    ensures fault { IfErr result
-        (λ e. MatchBool (is_no_memory e) ⊤ (first_fault [] (map view list.now) ≡ Some e)) }
+    ensures { GivesAs (λ v. v.items) is_no_memory result (fields_or_fault (map view list.now)) }
 {
     let mut fields = Vec::new(alloc);
     for (i, value) in list.iter().enumerate() {
@@ -35,10 +34,7 @@ pub(crate) fn read_fields(alloc: Global, list: &[Value]) -> Result<Vec<Field>, S
 
 // The field of an object behind the earlier ones, or its fault.
 fn read_field(alloc: Global, earlier: &[Value], value: &Value) -> Result<Field, SchemaFault>
-    ensures faultless { IfOk result (λ f. field_fault (map view earlier.now) (view value.now) ≡ None) }
-    ensures field { IfOk result (λ f. field_of (view value.now) ≡ Some f) }
-    ensures fault { IfErr result
-        (λ e. MatchBool (is_no_memory e) ⊤ (field_fault (map view earlier.now) (view value.now) ≡ Some e)) }
+    ensures { GivesAs Some is_no_memory result (field_or_fault (map view earlier.now) (view value.now)) }
 {
     let name = Text::from_str(alloc, name_of(value))?;
     if !is_field_name(name.get()) || earlier.len() >= MOST_FIELDS {

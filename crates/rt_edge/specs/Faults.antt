@@ -1,5 +1,5 @@
 -- When a fault of the outside may be told.
-use Rattle.std.specs.Prelude.{◌≡◌, ℕ, ◌+◌, ◌-◌, ◌^◌, ◌≤◌, min, List, Option, Result, OnErr}
+use Rattle.std.specs.Prelude.{◌≡◌, ℕ, ◌+◌, ◌-◌, ◌^◌, ◌≤◌, min, Result, OnOk, OnErr}
 
 -- the greatest number of a count of faults, at which it stands still
 abbrev pub most_faults : ℕ
@@ -11,13 +11,10 @@ one_more count = min (count + 1) most_faults
 
 -- the count rose, or stands at its greatest number
 abbrev pub Rose : ℕ → ℕ → Type 0
-Rose before now = min (before + 1) most_faults ≤ now
+Rose before now = one_more before ≤ now
 
--- the count has not fallen, and has risen where the call failed
+-- the count has risen where the call failed, has not fallen, and stands as before where the call did its work
 pub record HasCause {T E : Type 0} (before now : ℕ) (result : Result T E) : Type 0 where
   pub later : before ≤ now
   pub failed : OnErr result (Rose before now)
-
--- known bytes stay as they are
-abbrev pub IsKept : Option (List ℕ) → Option (List ℕ) → Type 0
-IsKept old new = new ≡ old
+  pub kept : OnOk result (now ≡ before)

@@ -1,3 +1,5 @@
 pub mod Faults
+pub mod Flushes
+pub mod Counted
 pub mod MemSource
 pub mod MemSink

@@ -10,14 +10,14 @@ mod mem_sink;
 mod mem_source;
 mod sink;
 mod source;
-mod std_streams;
+mod streams;
 
 pub use gate::{Gate, Moment, OpenGate};
 pub use mem_sink::MemSink;
 pub use mem_source::MemSource;
 pub use sink::Sink;
 pub use source::{Failed, Source};
-pub use std_streams::{StdSink, StdSource};
+pub use streams::{Reading, StdSink, StdSource, Writing};
 
 /// Memory was wanting.
 #[derive(Clone, Copy, Debug, PartialEq, Eq)]

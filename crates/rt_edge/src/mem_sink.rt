@@ -1,7 +1,8 @@
-ghost use Rattle.std.specs.Prelude.{◌≡◌, ◌<◌, ◌≤◌, ◌↔◌, List, [], length, take, Some, IfOk, OnErr, IsOk, IsErr};
-ghost use Rattle.std.specs.Io.KnownBytes.{WriteAppends};
-ghost use Rattle.rt_edge.specs.Faults.{HasCause, IsKept};
-ghost use Rattle.rt_edge.specs.MemSink.{IsFailing, taken_count, after_taking, after_failed_write};
+ghost use Rattle.std.specs.Prelude.{◌≡◌, ◌<◌, ◌≤◌, ◌↔◌, true, List, [], length, take, Some, IfOk, OnErr, IsOk, IsErr};
+ghost use Rattle.std.specs.Io.KnownBytes.{Keeps, WriteAppends};
+ghost use Rattle.rt_edge.specs.Faults.{HasCause};
+ghost use Rattle.rt_edge.specs.Flushes.{WriteUnflushes, FlushFlushes};
+ghost use Rattle.rt_edge.specs.MemSink.{IsFailing, taken_count, after_taking, after_failed_write, after_flush};
 
 use crate::NoMemory;
 use crate::fails::is_listed;
@@ -12,8 +13,8 @@ use std::marker::Model;
 
 /// Holds bytes in memory, takes a piece at a time, and fails at chosen writes. It is for tests.
 ///
-/// Contracts see the bytes held, the room, the piece, the numbers of the writes that fail, and how many
-/// writes were made and failed. Both counts stand still at 2^64 - 1.
+/// Contracts see the bytes held, the room, the piece, the numbers of the writes that fail, how many writes
+/// were made and failed, and whether a flush came after the last. Both counts stand still at 2^64 - 1.
 #[derive(Debug, Drop)]
 pub struct MemSink {
     bytes: Vec<u8>,
@@ -22,6 +23,7 @@ pub struct MemSink {
     fails: Vec<u32>,
     calls: u64,
     faults: u64,
+    flushed: bool,
 }
 
 impl Model for MemSink {
@@ -30,7 +32,7 @@ impl Model for MemSink {
 
     ghost Value = { SinkState };
 
-    ghost view = { λ s. record { held = s.bytes.items; room = s.room; piece = s.piece; fails = s.fails.items; calls = s.calls; faults = s.faults } };
+    ghost view = { λ s. record { held = s.bytes.items; room = s.room; piece = s.piece; fails = s.fails.items; calls = s.calls; faults = s.faults; flushed = s.flushed } };
 
     ghost invariant = { λ s. (length s.bytes.items ≤ s.room) × (s.room ≤ vec_capacity s.bytes) × (0 < s.piece) };
 }
@@ -49,6 +51,7 @@ impl MemSink {
         ensures fails { IfOk result (λ sink. sink.fails ≡ fails.items) }
         ensures calls { IfOk result (λ sink. sink.calls ≡ 0) }
         ensures faults { IfOk result (λ sink. sink.faults ≡ 0) }
+        ensures flushed { IfOk result (λ sink. sink.flushed ≡ true) }
     {
         let Ok(bytes) = Vec::with_capacity(alloc, room as usize) else {
             return Err(NoMemory);
@@ -60,6 +63,7 @@ impl MemSink {
             fails,
             calls: 0,
             faults: 0,
+            flushed: true,
         })
     }
 
@@ -74,6 +78,8 @@ impl MemSink {
 impl Sink for MemSink {
     ghost held = { λ s. Some s.held };
 
+    ghost flushed = { λ s. Some s.flushed };
+
     ghost faults = { λ s. s.faults };
 
     /// Takes the least of the piece, the length of `from` and the room left.
@@ -85,6 +91,7 @@ impl Sink for MemSink {
         ensures some { IfOk result (λ n. 0 < n) }
         ensures within { IfOk result (λ n. n ≤ length from.now) }
         ensures bytes { WriteAppends (Some self.old.held) (Some self.new.held) result from.now }
+        ensures flushed { WriteUnflushes (Some self.old.flushed) (Some self.new.flushed) result }
         ensures cause { HasCause self.old.faults self.new.faults result }
 
         ensures fails { IsErr result ↔ IsFailing self.old }
@@ -103,17 +110,20 @@ impl Sink for MemSink {
         if self.bytes.extend_from_slice(&from[..n]).is_err() {
             unreachable!();
         }
+        self.flushed = false;
         Ok(n)
     }
 
     /// Has nothing to pass on, and never fails.
     fn flush(&mut self) -> Result<(), Failed>
-        ensures bytes { IsKept (Some self.old.held) (Some self.new.held) }
+        ensures bytes { Keeps (Some self.old.held) (Some self.new.held) }
+        ensures flushed { FlushFlushes (Some self.old.flushed) (Some self.new.flushed) result }
         ensures cause { HasCause self.old.faults self.new.faults result }
 
         ensures succeeds { IsOk result }
-        ensures same { self.new ≡ self.old }
+        ensures marked { self.new ≡ after_flush self.old }
     {
+        self.flushed = true;
         Ok(())
     }
 }

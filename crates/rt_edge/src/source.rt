@@ -17,7 +17,8 @@ pub trait Source {
 
     /// Puts the next bytes at the front of `into` and says how many; 0 is the end.
     ///
-    /// `Failed` comes only where the count of faults rose, and takes no byte. It costs one call of what is read.
+    /// `Failed` comes only where the count of faults rose, and takes no byte; else the count stands as before. It
+    /// costs one call of what is read.
     fn read(&mut self, into: &mut [u8]) -> Result<usize, Failed>
         requires { 0 < length into.old }
         ensures within { ReadsAtMost result into.new }

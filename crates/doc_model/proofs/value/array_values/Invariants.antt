@@ -6,4 +6,4 @@ use Rattle.doc_model.proofs.value.array_values.Given as goal
 
 -- the values so far stand before those that are left
 abbrev pub invariant-loop-value : goal.invariant-loop-value
-invariant-loop-value l = list_values l.kind (map view l.values) ≡ onto l.found.items (list_values l.kind (map view (drop l.value-index l.values)))
+invariant-loop-value l = list_values l.field.kind (map view l.values) ≡ onto l.found.items (list_values l.field.kind (map view (drop l.value-index l.values)))

@@ -1,6 +1,6 @@
 use Rattle.std.proofs.Common.{◌≤◌, vec_len, sym, ap, subst, ◌∙◌, arith}
 use Rattle.doc_sets.specs.Sets.{is_in}
-use Rattle.doc_sets.specs.Rows.{Reaches}
+use Rattle.doc_sets.specs.BitRows.{Reaches}
 use Rattle.doc_sets.proofs.SetsOf.{row_of_list}
 use Rattle.doc_sets.proofs.Smaller.{short_list, short_row}
 use Rattle.doc_sets.proofs.doc_set.settled_list.Goals as goal

@@ -2,7 +2,7 @@ use Rattle.std.proofs.Common.{sym, ap, subst, ◌∙◌, arith}
 use Rattle.std.proofs.lemmas.Result.{IfOk-weaker}
 use Rattle.std.specs.FinSet.{from_list}
 use Rattle.doc_sets.specs.Sets.{IsAscending}
-use Rattle.doc_sets.specs.Rows.{numbers_of}
+use Rattle.doc_sets.specs.BitRows.{numbers_of}
 use Rattle.doc_sets.proofs.Bits.{ascending-numbers_of}
 use Rattle.doc_sets.proofs.SetsOf.{row_of_row}
 use Rattle.doc_sets.proofs.doc_set.settled_row.Goals as goal

@@ -1,10 +1,10 @@
 use Rattle.std.proofs.Common.{◌∙◌}
 use Rattle.std.proofs.lemmas.Result.{IfOk-weaker}
 use Rattle.doc_sets.specs.Sets.{is_in}
-use Rattle.doc_sets.specs.Rows.{has_bit}
+use Rattle.doc_sets.specs.BitRows.{has_bit}
 use Rattle.doc_sets.proofs.Bits.{is_in-numbers_of}
 use Rattle.doc_sets.proofs.SetsOf.{and_of, and_swap, filtered, filtered_rises}
-use Rattle.doc_sets.proofs.Kept.{listed_rises, listed_holds, row_holds}
+use Rattle.doc_sets.proofs.FormOfSet.{listed_rises, listed_holds, row_holds}
 use Rattle.doc_sets.proofs.doc_set.DocSet.and.Goals as goal
 
 pub settled_list-requires : goal.settled_list-requires

@@ -1,5 +1,5 @@
 use Rattle.std.proofs.Common.{sym, ◌∙◌}
-use Rattle.doc_sets.proofs.Kept.{listed_answer, row_answer, documents_in}
+use Rattle.doc_sets.proofs.FormOfSet.{listed_answer, row_answer, documents_in}
 use Rattle.doc_sets.proofs.doc_set.DocSet.has.Goals as goal
 
 pub returns-in-Listed-clause-member : goal.returns-in-Listed-clause-member

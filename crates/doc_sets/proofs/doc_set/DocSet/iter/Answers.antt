@@ -1,4 +1,4 @@
-use Rattle.doc_sets.proofs.Kept.{listed_members, row_members, documents_in}
+use Rattle.doc_sets.proofs.FormOfSet.{listed_members, row_members, documents_in}
 use Rattle.doc_sets.proofs.Members.{listing_of}
 use Rattle.doc_sets.proofs.doc_set.DocSet.iter.Goals as goal
 

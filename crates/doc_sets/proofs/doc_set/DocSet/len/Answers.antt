@@ -1,5 +1,5 @@
 use Rattle.std.proofs.Common.{length, sym, ap, ◌∙◌}
-use Rattle.doc_sets.proofs.Kept.{len_in, members_in, documents_in}
+use Rattle.doc_sets.proofs.FormOfSet.{len_in, members_in, documents_in}
 use Rattle.doc_sets.proofs.doc_set.DocSet.len.Goals as goal
 
 pub returns-clause-count : goal.returns-clause-count

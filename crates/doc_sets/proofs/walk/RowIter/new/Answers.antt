@@ -1,5 +1,5 @@
 use Rattle.std.proofs.Common.{sym, ap, ◌∙◌}
-use Rattle.doc_sets.specs.Rows.{numbers_of}
+use Rattle.doc_sets.specs.BitRows.{numbers_of}
 use Rattle.doc_sets.proofs.Lefts.{left_all, left_nothing}
 use Rattle.doc_sets.proofs.walk.RowIter.new.Goals as goal
 
