@@ -7,10 +7,10 @@
 
 use std::alloc::{AllocError, AllocFailed};
 
+mod bit_rows;
 mod doc_list;
 mod doc_set;
 mod listed;
-mod bit_rows;
 #[cfg(test)]
 mod tests;
 mod walk;

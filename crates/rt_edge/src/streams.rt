@@ -1,6 +1,5 @@
-ghost use Rattle.std.specs.Prelude.{◌≡◌, None, Ok, Err, MatchResult};
-ghost use Rattle.rt_edge.specs.Faults.{HasCause, one_more};
-ghost use Rattle.rt_edge.specs.declared.source.Failed.{Failed};
+ghost use Rattle.std.specs.Prelude.{◌≡◌, ◌↔◌, None, IsErr};
+ghost use Rattle.rt_edge.specs.Faults.{HasCause};
 
 use crate::sink::Sink;
 use crate::source::{Failed, Source};
@@ -119,7 +118,7 @@ impl<W: Write> Sink for Writing<W> {
 
 // What a writer's flush answered, with its fault counted.
 fn flush_told(faults: &mut u64, answer: io::Result<()>) -> Result<(), Failed>
-    ensures told { MatchResult answer (λ x. result ≡ Ok x) (λ _. result ≡ Err Failed) }
+    ensures told { IsErr result ↔ IsErr answer }
     ensures cause { HasCause faults.old faults.new result }
 {
     match answer {
