@@ -99,9 +99,9 @@ module _ {X : Type 0} (n : X → ℕ) where
           by : (z ≡ x) ⊎ IsOneOf z ys → IsOneOf z ys
           by (inr there) = there
           by (inl e) = absurd (
-            let twice : HasKey (n x) ys = counted (n x) ys (subst (λ k. 0 < k) (fewer (λ w. n w == n x)) (is_counted (n x) xs (subst (λ k. HasKey k xs) (ap n e) (has_key z xs one)))) in
-            let above : n x < n x = key_of (n x) ys (λ k. n x < k) rising twice in
-            omega arith)
+              let twice : HasKey (n x) ys = counted (n x) ys (subst (λ k. 0 < k) (fewer (λ w. n w == n x)) (is_counted (n x) xs (subst (λ k. HasKey k xs) (ap n e) (has_key z xs one)))) in
+              let above : n x < n x = key_of (n x) ys (λ k. n x < k) rising twice in
+              omega arith)
 
   pub rising_is_only : (xs ys : List X) → IsFlatOrRising xs → IsRising ys → AreSame xs ys → xs ≡ ys
   rising_is_only [] [] flat rising same = refl

@@ -46,12 +46,7 @@ fn listed(alloc: Global, script: &[Line]) -> Result<Vec<Turn>, NoMemory>
 }
 
 // Adds the turn of a line, if it asks for something.
-fn push_turn(
-    turns: &mut Vec<Turn>,
-    phase: u32,
-    index: u32,
-    what: &What,
-) -> Result<(), NoMemory>
+fn push_turn(turns: &mut Vec<Turn>, phase: u32, index: u32, what: &What) -> Result<(), NoMemory>
     requires phase { phase ≤ 100000 }
     requires client { HasClient what.now }
     ensures { OnOk result (turns.new.items ≡ turns.old.items ++ option_to_list (turn_of phase index what.now)) }

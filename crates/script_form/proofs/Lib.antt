@@ -5,5 +5,6 @@ pub mod Scripts
 pub mod Configs
 pub mod Checks
 pub mod Values
+pub mod Ranges
 pub mod Decimals
 pub mod EmptyLists

@@ -3,3 +3,4 @@ pub mod Results
 pub mod Decimals
 pub mod ReadConfig
 pub mod ReadScript
+pub mod Ranges

@@ -1,9 +1,10 @@
 -- Which lines a script has, and its first fault.
-use Rattle.std.specs.Prelude.{ℕ, ◌+◌, List, [], ◌∷◌, length, Bool, true, false, not, ◌||◌, ◌==◌, if◌then◌else◌, Option, Result, Ok, Err, codes, slice_index}
+use Rattle.std.specs.Prelude.{ℕ, ◌+◌, List, [], ◌∷◌, length, Bool, true, false, not, ◌||◌, ◌==◌, if◌then◌else◌, Option, Some, None, Result, Ok, Err, codes, slice_index}
 use Rattle.std.specs.List.{before_first, after_first}
 use Rattle.std.specs.Option.{option_map_or}
 use Rattle.std.specs.Str.{is_utf8}
 use Rattle.field_schema.specs.Bytes.{bytes_eq}
+use Rattle.script_form.specs.declared.script.Front.{Front}
 use Rattle.script_form.specs.declared.script.Line.{Line}
 use Rattle.script_form.specs.declared.script.LineName.{LineName}
 use Rattle.script_form.specs.declared.script.LineName.TheVariants as name
@@ -72,24 +73,37 @@ what_in clients line =
 unfoldable pub what_of : ℕ → List ℕ → Result What LineName
 what_of clients line = if is_utf8 line then what_in clients line else Err name.NotUtf8
 
--- ---- the lines
+-- ---- the fault of a line
 
 -- the line of that number has that fault
 abbrev pub line_failed : ℕ → LineName → ScriptRefusal
 line_failed number fault = refusal.Fault (record { line = number; name = fault })
 
+-- a fault is told with its line's number
 abbrev pub told : {A : Type 0} → ℕ → Result A LineName → Result A ScriptRefusal
 told number (Ok x) = Ok x
 told number (Err fault) = Err (line_failed number fault)
 
--- the lines from that number on, or the first fault
-abbrev pub lines_from : ℕ → ℕ → List (List ℕ) → Result (List Line) ScriptRefusal
-lines_from clients number [] = Ok []
-lines_from clients number (line ∷ others) =
-    result_then (told number (what_of clients line)) (λ asked.
-    result_then (lines_from clients (number + 1) others) (λ later.
-    Ok (record { number = number; what = asked } ∷ later)))
+-- ---- the lines
+
+-- the line of that number in front of what is read behind it; at a fault nothing more is read
+abbrev pub in_front : ℕ → Result What LineName → Front → Front
+in_front number (Ok asked) later = record { lines = record { number = number; what = asked } ∷ later.lines; fault = later.fault }
+in_front number (Err fault) later = record { lines = []; fault = Some (record { line = number; name = fault }) }
+
+-- the lines from that number on, up to the first fault
+abbrev pub front_from : ℕ → ℕ → List (List ℕ) → Front
+front_from clients number [] = record { lines = []; fault = None }
+front_from clients number (line ∷ others) = in_front number (what_of clients line) (front_from clients (number + 1) others)
+
+-- the lines of a script of so many clients before its first fault, and that fault
+unfoldable pub front_of : ℕ → List (List ℕ) → Front
+front_of clients ls = front_from clients 1 ls
+
+-- all lines, where there is no fault
+abbrev pub whole_script : Front → Result (List Line) ScriptRefusal
+whole_script front = option_map_or (λ fault. Err (refusal.Fault fault)) front.fault (Ok front.lines)
 
 -- the script of so many clients, or its first fault
-unfoldable pub script_of : ℕ → List (List ℕ) → Result (List Line) ScriptRefusal
-script_of clients ls = lines_from clients 1 ls
+abbrev pub script_of : ℕ → List (List ℕ) → Result (List Line) ScriptRefusal
+script_of clients ls = whole_script (front_of clients ls)

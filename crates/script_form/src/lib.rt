@@ -1,12 +1,14 @@
 //! The configuration and the script, read from the bytes of the input, exactly or to their first fault.
 //!
 //! - [`read_config`] reads the configuration, which stands before the first line that is exactly `%%`.
-//! - [`read_script`] reads the lines behind it. What stands in a request's body is read by whoever executes it.
+//! - [`read_script`] reads the lines behind it, and [`read_front`] those before its first fault. What stands in a
+//!   request's body is read by whoever executes it.
 //! - [`too_large`] says whether the input passes a limit.
 #![tactic(auto)]
 
 mod config;
 mod decimal;
+pub mod laws;
 mod lines;
 mod member;
 mod request;
@@ -16,4 +18,6 @@ mod tests;
 
 pub use config::{Config, ConfigFault, ConfigRefusal, WarmSetting, read_config};
 pub use lines::too_large;
-pub use script::{Line, LineFault, LineName, Script, ScriptRefusal, What, read_script};
+pub use script::{
+    Front, Line, LineFault, LineName, Script, ScriptRefusal, What, read_front, read_script,
+};

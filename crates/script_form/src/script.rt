@@ -1,7 +1,7 @@
-ghost use Rattle.std.specs.Prelude.{◌≡◌, ◌<◌, ◌^◌, length};
+ghost use Rattle.std.specs.Prelude.{◌≡◌, ◌<◌, ◌^◌, IfOk, length};
 ghost use Rattle.std.specs.Str.Lines.{lines};
 ghost use Rattle.field_schema.specs.Outcome.{Gives};
-ghost use Rattle.script_form.specs.ReadScript.{is_no_memory, most_clients, script_of};
+ghost use Rattle.script_form.specs.ReadScript.{front_of, is_no_memory, most_clients, script_of};
 
 use crate::lines::next_line;
 use crate::request::read_line;
@@ -71,6 +71,26 @@ pub struct LineFault {
     pub name: LineName,
 }
 
+/// The lines of a script before its first fault, and that fault, if there is one.
+#[derive(Debug, Drop)]
+pub struct Front {
+    pub lines: Script,
+    pub fault: Option<LineFault>,
+}
+
+impl Front {
+    // These lines, and that fault.
+    fn up_to(lines: Vec<Line>, fault: Option<LineFault>) -> Front
+        ensures lines { result.lines ≡ lines.items }
+        ensures fault { result.fault ≡ fault }
+    {
+        Front {
+            lines: Script::new(lines),
+            fault,
+        }
+    }
+}
+
 /// Why there is no script.
 #[derive(Clone, Copy, Debug, PartialEq, Eq)]
 pub enum ScriptRefusal {
@@ -118,19 +138,19 @@ impl Script {
     }
 }
 
-/// The lines of a script, or the first fault.
+/// The lines of a script before its first fault, and that fault, if there is one.
 ///
 /// An empty line and one that begins with `#` ask for nothing, and `---` ends the phase. Each other line is a
 /// request: a client's number, 1 to 12 in decimal without a leading zero, a space, then `add`, `delete` or `query`,
 /// a space and a body, or `commit` and, if it is there, a space and a body. No body is read here, so no fault tells of
 /// what stands in one.
 ///
-/// Lines are numbered from 1. The fault is that of the first line with one, by the order of [`LineName`]. `NoMemory`
-/// comes only where memory is wanting. It costs the script's length.
-#[tactic(auto, unfolding(crate::specs::ReadScript::script_of))]
-pub fn read_script(alloc: Global, bytes: &[u8]) -> Result<Script, ScriptRefusal>
+/// Lines are numbered from 1. The fault is that of the first line with one, by the order of [`LineName`]. An error is
+/// want of memory. It costs the script's length up to the fault.
+#[tactic(auto, unfolding(crate::specs::ReadScript::front_of))]
+pub fn read_front(alloc: Global, bytes: &[u8]) -> Result<Front, NoMemory>
     requires { length bytes.now < 2 ^ 32 }
-    ensures { Gives is_no_memory result (script_of most_clients (lines bytes.now)) }
+    ensures { IfOk result (λ f. f ≡ front_of most_clients (lines bytes.now)) }
 {
     let mut read = Vec::new(alloc);
     let mut number: u32 = 0;
@@ -138,9 +158,26 @@ pub fn read_script(alloc: Global, bytes: &[u8]) -> Result<Script, ScriptRefusal>
     while !rest.is_empty() {
         let (line, others) = next_line(rest);
         number += 1;
-        let what = read_line(alloc, CLIENTS, number, line)?;
-        read.push(Line { number, what })?;
+        match read_line(alloc, CLIENTS, number, line) {
+            Ok(what) => read.push(Line { number, what })?,
+            Err(ScriptRefusal::Fault(fault)) => return Ok(Front::up_to(read, Some(fault))),
+            Err(ScriptRefusal::NoMemory) => return Err(NoMemory),
+        }
         rest = others;
     }
-    Ok(Script::new(read))
+    Ok(Front::up_to(read, None))
+}
+
+/// The lines of a script, as [`read_front`] reads them, or the first fault.
+///
+/// `NoMemory` comes only where memory is wanting. It costs the script's length.
+pub fn read_script(alloc: Global, bytes: &[u8]) -> Result<Script, ScriptRefusal>
+    requires { length bytes.now < 2 ^ 32 }
+    ensures { Gives is_no_memory result (script_of most_clients (lines bytes.now)) }
+{
+    let front = read_front(alloc, bytes)?;
+    match front.fault {
+        Some(fault) => Err(ScriptRefusal::Fault(fault)),
+        None => Ok(front.lines),
+    }
 }

@@ -1,17 +1,21 @@
 -- What follows for an input that reads.
-use Rattle.std.proofs.Common.{◌≡◌, refl, sym, ◌∙◌, ap, ℕ, suc, ◌+◌, ◌<◌, ◌≤◌, List, [], ◌∷◌, length, Bool, true, false, ◌||◌, cond, nat_lt, Option, Some, None, Result, Ok, Err, option_map, arith}
+use Rattle.std.proofs.Common.{◌≡◌, refl, sym, ◌∙◌, ap, ℕ, suc, ◌+◌, ◌<◌, ◌≤◌, List, [], ◌∷◌, length, Bool, true, false, ◌||◌, cond, nat_lt, Option, Some, None, Result, Ok, Err, arith, subst}
 use Rattle.std.proofs.lemmas.Bool.Decides.{nat_tests}
 use Rattle.std.specs.Option.{option_map_or}
-use Rattle.std.specs.Str.{is_utf8}
 use Rattle.field_schema.specs.Schema.{Fields}
 use Rattle.script_form.specs.declared.config.Config.{Config}
 use Rattle.script_form.specs.declared.script.Line.{Line}
 use Rattle.script_form.specs.declared.script.LineFault.{LineFault}
 use Rattle.script_form.specs.declared.script.LineName.TheVariants.{NotBuilt}
 use Rattle.script_form.specs.declared.script.What.{What}
-use Rattle.script_form.specs.Lines.{most_input, most_lines, too_large, lines_too_large, script_lines, has_marker, config_text}
-use Rattle.script_form.specs.ReadConfig.{default_config, config_in, config_of}
-use Rattle.script_form.specs.ReadScript.{what_of, before_others, lines_from, script_of}
+use Rattle.script_form.specs.Lines.{most_input, most_lines, too_large, lines_too_large, script_lines}
+use Rattle.script_form.specs.declared.script.Front.{Front}
+use Rattle.script_form.specs.declared.script.LineName.{LineName}
+use Rattle.script_form.specs.declared.script.ScriptRefusal.TheVariants as refusal
+use Rattle.script_form.specs.ReadConfig.{config_of}
+use Rattle.script_form.specs.ReadScript.{what_of, in_front, front_from, front_of, whole_script, script_of, line_failed, most_clients}
+use Rattle.script_form.proofs.Ranges.{config_is}
+use Rattle.solr_cli.specs.BuiltForms.{built_script, first_unbuilt}
 
 first_false : (a b : Bool) → (a || b) ≡ false → a ≡ false
 first_false true b h = h
@@ -46,41 +50,39 @@ beyond_input input h = ap (λ b. b || lines_too_large (script_lines input)) (les
 
 -- ---- the configuration
 
-warms_one : (o : Option Fields) (c : Config) → option_map default_config o ≡ Some c → c.max_warming ≡ 1
-warms_one None c h = absurd (cc)
-warms_one (Some s) c h = let same : default_config s ≡ c = cc in ap (λ x. x.max_warming) (sym same)
-
-in_text : (b : Bool) (o : Option Fields) (c : Config) → cond b (option_map default_config o) None ≡ Some c → c.max_warming ≡ 1
-in_text true o c h = warms_one o c h
-in_text false o c h = absurd (cc)
-
--- one searcher may be warming
-pub one_warming : (input : List ℕ) (c : Config) → config_of input ≡ Some c → c.max_warming ≡ 1
-unfolding config_of
-one_warming input c h = by_marker (has_marker input) h
-  where
-    by_marker : (b : Bool) → cond b (config_in (config_text input)) None ≡ Some c → c.max_warming ≡ 1
-    by_marker true e = in_text (is_utf8 (config_text input)) _ c e
-    by_marker false e = absurd (cc)
+-- at least one searcher may be warming
+pub some_warming : (input : List ℕ) (c : Config) → config_of input ≡ Ok c → 1 ≤ c.max_warming
+some_warming input c h = (config_is input c h).max_warming.0
 
 -- ---- the script
 
-one_more : (line : Line) (r : Result (List Line) LineFault) (script : List Line) (n : ℕ) → before_others line r ≡ Ok script → ((s : List Line) → r ≡ Ok s → length s ≡ n) → length script ≡ suc n
-one_more line (Ok others) script n h each =
-    let same : line ∷ others ≡ script = cc in
-    ap length (sym same) ∙ ap suc (each others refl)
-one_more line (Err fault) script n h each = absurd (cc)
-
-as_many_from : (n : ℕ) (s : Fields) (ls : List (List ℕ)) (script : List Line) → lines_from n s ls ≡ Ok script → length script ≡ length ls
-as_many_from n s [] script h = let same : [] ≡ script = cc in ap length (sym same)
-as_many_from n s (line ∷ others) script h = by_what (as_many_from (n + 1) s others) (what_of s line) h
+no_more_from : (clients number : ℕ) (ls : List (List ℕ)) → length (front_from clients number ls).lines ≤ length ls
+no_more_from clients number [] = omega arith
+no_more_from clients number (line ∷ others) = by_what (what_of clients line) (no_more_from clients (number + 1) others)
   where
-    by_what : ((r : List Line) → lines_from (n + 1) s others ≡ Ok r → length r ≡ length others) → (w : Option What) →
-        option_map_or (λ x. before_others (record { number = n; what = x }) (lines_from (n + 1) s others)) w (Err (record { line = n; name = NotBuilt })) ≡ Ok script → length script ≡ suc (length others)
-    by_what each None e = absurd (cc)
-    by_what each (Some x) e = one_more (record { number = n; what = x }) (lines_from (n + 1) s others) script (length others) e each
+    by_what : (w : Result What LineName) → length (front_from clients (number + 1) others).lines ≤ length others
+        → length (in_front number w (front_from clients (number + 1) others)).lines ≤ suc (length others)
+    by_what (Ok asked) later = omega arith
+    by_what (Err fault) later = omega arith
 
--- a script has as many lines as its text
-pub as_many : (s : Fields) (ls : List (List ℕ)) (script : List Line) → script_of s ls ≡ Ok script → length script ≡ length ls
-unfolding script_of
-as_many s ls script h = as_many_from 1 s ls script h
+whole_lines : (front : Front) (script : List Line) → whole_script front ≡ Ok script → front.lines ≡ script
+whole_lines front script h = by_fault front.fault h
+  where
+    by_fault : (fault : Option LineFault) → option_map_or (λ f. Err (refusal.Fault f)) fault (Ok front.lines) ≡ Ok script → front.lines ≡ script
+    by_fault None e = cc
+    by_fault (Some f) e = absurd (cc)
+
+-- what is built is what the script reads to
+pub built_is_read : (s : Fields) (ls : List (List ℕ)) (script : List Line) → built_script s ls ≡ Ok script → script_of most_clients ls ≡ Ok script
+built_is_read s ls script h = by_line (first_unbuilt s (front_of most_clients ls).lines) h
+  where
+    by_line : (n : Option ℕ) → option_map_or (λ k. Err (line_failed k NotBuilt)) n (script_of most_clients ls) ≡ Ok script → script_of most_clients ls ≡ Ok script
+    by_line None e = e
+    by_line (Some k) e = absurd (cc)
+
+-- a script has no more lines than its text
+pub no_more : (s : Fields) (ls : List (List ℕ)) (script : List Line) → built_script s ls ≡ Ok script → length script ≤ length ls
+unfolding front_of
+no_more s ls script h =
+    let lines : (front_of most_clients ls).lines ≡ script = whole_lines (front_of most_clients ls) script (built_is_read s ls script h) in
+    subst (λ (x : List Line). length x ≤ length ls) lines (no_more_from most_clients 1 ls)

@@ -1,12 +1,17 @@
 -- What running an input gives, below the top call.
-use Rattle.std.specs.Prelude.{◌≡◌, ℕ, List, [], Option, Some, ⊤}
+use Rattle.std.specs.Prelude.{◌≡◌, ℕ, List, [], Option, Some, Result, Ok, Err, ⊤}
 use Rattle.script_form.specs.declared.config.Config.{Config}
 use Rattle.script_form.specs.declared.script.Line.{Line}
 use Rattle.client_runner.specs.declared.rows.Output.{Output}
 use Rattle.solr_cli.specs.declared.status.Status.{Status}
 use Rattle.solr_cli.specs.declared.status.Status.TheVariants as status
 use Rattle.solr_cli.specs.Answering.{IsRefusal}
-use Rattle.solr_cli.specs.Top.{RunsTo}
+use Rattle.solr_cli.specs.Top.{RunsTo, CountsReads}
+
+-- a read fault is told where the source's count rose, and all else where it is as before
+abbrev pub TellsReads : {A : Type 0} → ℕ → ℕ → Result A Status → Type 0
+TellsReads before now (Ok x) = now ≡ before
+TellsReads before now (Err s) = CountsReads s before now
 
 -- why an input was not run
 abbrev pub IsReadRefusal : List ℕ → Status → Type 0

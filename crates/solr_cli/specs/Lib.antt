@@ -5,3 +5,4 @@ pub mod BuiltForms
 pub mod Answering
 pub mod Top
 pub mod InputRuns
+pub mod Arguments

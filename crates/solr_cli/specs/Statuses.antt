@@ -24,13 +24,17 @@ name_of BadVerb = codes "BadVerb"
 name_of BadBody = codes "BadBody"
 name_of NotBuilt = codes "NotBuilt"
 
+-- a number and a name, and what stands between them
+abbrev pub named_line : ℕ → List ℕ → List ℕ → List ℕ
+named_line number between name = decimal number ++ (between ++ (name ++ codes "\n"))
+
 -- the line on standard error
 abbrev pub line_of : Status → List ℕ
 line_of Done = []
 line_of Usage = codes "usage\nsolr_cli run\nsolr_cli run --summary\nsolr_cli check\nsolr_cli make N\nsolr_cli drill N\n"
 line_of ReadFault = codes "read fault\n"
 line_of WriteFault = codes "write fault\n"
-line_of (BadConfig at name) = codes "bad configuration: check " ++ (decimal at ++ (codes ", " ++ (name ++ codes "\n")))
-line_of (BadLine line name) = codes "bad line " ++ (decimal line ++ (codes ": " ++ (name_of name ++ codes "\n")))
+line_of (BadConfig at name) = codes "bad configuration: check " ++ named_line at (codes ", ") name
+line_of (BadLine line name) = codes "bad line " ++ named_line line (codes ": ") (name_of name)
 line_of TooLarge = codes "input too large\n"
 line_of NoMemory = codes "no memory\n"

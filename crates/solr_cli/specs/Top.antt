@@ -1,6 +1,7 @@
 -- What the top call promises.
 use Rattle.std.specs.Prelude.{◌≡◌, ◌⊎◌, ℕ, List, [], ◌∷◌, Bool, false, Option, Some, None, IsSomeAnd, codes, ⊤}
 use Rattle.std.specs.Io.KnownBytes.{Appends}
+use Rattle.rt_edge.specs.Faults.{Rose}
 use Rattle.field_schema.specs.Bytes.{bytes_eq}
 use Rattle.script_form.specs.declared.config.Config.{Config}
 use Rattle.script_form.specs.declared.script.Line.{Line}
@@ -18,6 +19,16 @@ abbrev pub is_run : List (List ℕ) → Bool
 is_run [] = false
 is_run (word ∷ []) = bytes_eq word (codes "run")
 is_run (word ∷ other ∷ words) = false
+
+-- a read fault comes where the source's count of faults rose, and any other status where it is as before
+abbrev pub CountsReads : Status → ℕ → ℕ → Type 0
+CountsReads status.ReadFault before now = Rose before now
+CountsReads _ before now = now ≡ before
+
+-- the same of a write fault and the sink's count
+abbrev pub CountsWrites : Status → ℕ → ℕ → Type 0
+CountsWrites status.WriteFault before now = Rose before now
+CountsWrites _ before now = now ≡ before
 
 -- P, where the status is one that writes nothing
 abbrev pub WhereQuiet : Status → Type 0 → Type 0

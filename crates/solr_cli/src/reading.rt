@@ -1,7 +1,7 @@
 ghost use Rattle.std.specs.Prelude.{◌≡◌, ◌≢◌, ◌+◌, ◌≤◌, ◌<◌, Err, IfOk, length, vec_len};
 ghost use Rattle.std.specs.Io.KnownBytes.{Consumes, IsAtEnd};
 ghost use Rattle.script_form.specs.Lines.{most_input};
-ghost use Rattle.solr_cli.specs.Reading.{FailsByRise, HasRead};
+ghost use Rattle.solr_cli.specs.Reading.{TellsFaults, HasRead};
 
 use rt_edge::Source;
 use std::alloc::Global;
@@ -37,8 +37,7 @@ fn read_more<S: Source>(
     piece: &mut [u8],
 ) -> Result<usize, ReadRefusal>
     requires { 0 < length piece.old }
-    ensures later { S.faults input.old ≤ S.faults input.new }
-    ensures fault { FailsByRise (S.faults input.old) (S.faults input.new) result }
+    ensures faults { TellsFaults (S.faults input.old) (S.faults input.new) result }
     ensures count { IfOk result (λ n. length bytes.new.items ≡ length bytes.old.items + n) }
     ensures within { IfOk result (λ n. n ≤ length piece.old) }
     ensures bytes { IfOk result (λ n. HasRead (S.left input.old) (S.left input.new) bytes.old.items bytes.new.items n) }
@@ -54,8 +53,7 @@ fn read_more<S: Source>(
 
 // Reads an input to its end, or to one byte over the greatest input. Each turn takes a byte or more.
 pub(crate) fn read_all<S: Source>(alloc: Global, input: &mut S) -> Result<Vec<u8>, ReadRefusal>
-    ensures later { S.faults input.old ≤ S.faults input.new }
-    ensures fault { FailsByRise (S.faults input.old) (S.faults input.new) result }
+    ensures faults { TellsFaults (S.faults input.old) (S.faults input.new) result }
     ensures taken { IfOk result (λ v. Consumes (S.left input.old) (S.left input.new) v.items) }
     ensures whole { IfOk result (λ v. length v.items ≤ most_input → IsAtEnd (S.left input.new)) }
     ensures within { IfOk result (λ v. length v.items ≤ most_input + 1) }

@@ -5,6 +5,10 @@ use field_schema::{NoMemory, Text};
 use script_form::LineName;
 use std::alloc::Global;
 
+// What is told where the words are no command: the commands that there are, or will be.
+pub(crate) const USAGE: &str =
+    "usage\nsolr_cli run\nsolr_cli run --summary\nsolr_cli check\nsolr_cli make N\nsolr_cli drill N\n";
+
 /// How a command ended.
 #[derive(Debug, Drop)]
 pub enum Status {
@@ -45,7 +49,7 @@ impl Status {
 }
 
 // The name of a line's fault.
-fn line_name(name: LineName) -> &'static str
+pub(crate) fn line_name(name: LineName) -> &'static str
     ensures { result.now ≡ name_of name }
 {
     match name {
@@ -64,10 +68,7 @@ pub fn status_line(alloc: Global, status: &Status) -> Result<Text, NoMemory>
 {
     let text = match status {
         Status::Done => String::new(alloc),
-        Status::Usage => String::from_str(
-            alloc,
-            "usage\nsolr_cli run\nsolr_cli run --summary\nsolr_cli check\nsolr_cli make N\nsolr_cli drill N\n",
-        )?,
+        Status::Usage => String::from_str(alloc, USAGE)?,
         Status::ReadFault => String::from_str(alloc, "read fault\n")?,
         Status::WriteFault => String::from_str(alloc, "write fault\n")?,
         Status::BadConfig { at, name } => {

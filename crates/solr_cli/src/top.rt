@@ -1,10 +1,11 @@
-ghost use Rattle.std.specs.Prelude.{◌≡◌, ◌≤◌, ◌↔◌, false, true, IfOk, IfErr, IfSome, map, string_bytes};
+ghost use Rattle.std.specs.Prelude.{◌≡◌, ◌↔◌, false, true, IfOk, IfErr, IfSome, map, string_bytes};
 ghost use Rattle.rt_edge.specs.Faults.{Rose};
+ghost use Rattle.rt_edge.specs.Flushes.{IsTold};
 ghost use Rattle.run_laws.specs.OutputText.{output_text};
 ghost use Rattle.client_runner.specs.Outputs.{output_view};
 ghost use Rattle.solr_cli.specs.declared.status.Status.TheVariants as Status;
-ghost use Rattle.solr_cli.specs.InputRuns.{IsReadRefusal, IsRunFrom, Refuses};
-ghost use Rattle.solr_cli.specs.Top.{Completes, IsExplained, WhereQuiet, Writes, is_run};
+ghost use Rattle.solr_cli.specs.InputRuns.{IsReadRefusal, IsRunFrom, Refuses, TellsReads};
+ghost use Rattle.solr_cli.specs.Top.{Completes, CountsReads, CountsWrites, IsExplained, WhereQuiet, Writes, is_run};
 
 use crate::answer::answer;
 use crate::reading::{ReadRefusal, read_all};
@@ -39,8 +40,7 @@ fn run_input<S: Source, G: Gate>(
     input: &mut S,
     gate: &G,
 ) -> Result<(Output, Text), Status>
-    ensures later { S.faults input.old ≤ S.faults input.new }
-    ensures fault { IfErr result (λ s. s ≡ Status.ReadFault → Rose (S.faults input.old) (S.faults input.new)) }
+    ensures reads { TellsReads (S.faults input.old) (S.faults input.new) result }
     ensures text { IfOk result (λ r. r.1 ≡ output_text (output_view r.0)) }
     ensures ran { IfSome (S.left input.old) (λ bytes. IfOk result (λ r. IsRunFrom bytes (S.left input.new) r.0)) }
     ensures refuses { IfErr result Refuses }
@@ -71,13 +71,14 @@ pub fn run_top<S: Source, K: Sink, G: Gate>(
     ensures usage { (result.status ≡ Status.Usage) ↔ (is_run (map string_bytes words.now) ≡ false) }
     ensures unread { result.status ≡ Status.Usage → input.new ≡ input.old }
 
-    // A fault is told only where the outside failed in this call.
-    ensures read_fault { result.status ≡ Status.ReadFault → Rose (S.faults input.old) (S.faults input.new) }
-    ensures write_fault { result.status ≡ Status.WriteFault → Rose (K.faults out.old) (K.faults out.new) }
+    // A fault is told exactly where the outside failed in this call: else the counts of faults are as before.
+    ensures reads { CountsReads result.status (S.faults input.old) (S.faults input.new) }
+    ensures faults { CountsWrites result.status (K.faults out.old) (K.faults out.new) }
 
     // What is written is the text of the output that is handed back, or a front of it; else nothing is.
     ensures quiet { WhereQuiet result.status (out.new ≡ out.old) }
     ensures writes { Writes result.status result.output (K.held out.old) (K.held out.new) }
+    ensures flushed { result.status ≡ Status.Done → IsTold (K.flushed out.old) (K.flushed out.new) true }
 
     // Where the source tells its bytes, they explain the status: the run of an input that reads is lawful.
     ensures explained { IfSome (S.left input.old) (λ bytes. IsExplained bytes (S.left input.new) result.status result.output) }

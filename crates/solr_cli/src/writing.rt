@@ -1,14 +1,16 @@
-ghost use Rattle.std.specs.Prelude.{◌≡◌, IfOk, OnOk, OnErr};
+ghost use Rattle.std.specs.Prelude.{true, OnOk, OnErr};
+ghost use Rattle.rt_edge.specs.Flushes.{IsTold};
 ghost use Rattle.rt_edge.specs.Faults.{HasCause};
 ghost use Rattle.std.specs.Io.KnownBytes.{Appends};
-ghost use Rattle.solr_cli.specs.Writing.{AppendsPart};
+ghost use Rattle.solr_cli.specs.Writing.{AppendsPart, TellsFlushes};
 
 use rt_edge::{Failed, Sink};
 
 // Writes all of a text: each write is lent all that is not yet written.
-fn write_all<K: Sink>(out: &mut K, text: &[u8]) -> Result<(), Failed>
+pub(crate) fn write_all<K: Sink>(out: &mut K, text: &[u8]) -> Result<(), Failed>
     ensures ok { OnOk result (Appends (K.held out.old) (K.held out.new) text.now) }
     ensures err { OnErr result (AppendsPart (K.held out.old) (K.held out.new) text.now) }
+    ensures flushed { OnOk result (TellsFlushes (K.flushed out.old) (K.flushed out.new)) }
     ensures cause { HasCause (K.faults out.old) (K.faults out.new) result }
 {
     let mut rest = text;
@@ -23,6 +25,7 @@ fn write_all<K: Sink>(out: &mut K, text: &[u8]) -> Result<(), Failed>
 pub(crate) fn write_text<K: Sink>(out: &mut K, text: &[u8]) -> Result<(), Failed>
     ensures ok { OnOk result (Appends (K.held out.old) (K.held out.new) text.now) }
     ensures err { OnErr result (AppendsPart (K.held out.old) (K.held out.new) text.now) }
+    ensures flushed { OnOk result (IsTold (K.flushed out.old) (K.flushed out.new) true) }
     ensures cause { HasCause (K.faults out.old) (K.faults out.new) result }
 {
     write_all(out, text)?;

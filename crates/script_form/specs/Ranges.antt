@@ -1,0 +1,37 @@
+-- What each configuration that is read keeps.
+use Rattle.std.specs.Prelude.{◌≡◌, ℕ, ◌≤◌, List, Ok, ⊤, slice_get, IsSomeAnd, IsTrue, MatchOption}
+use Rattle.std.specs.Bool.{MatchBool}
+use Rattle.field_schema.specs.Schema.{Fields, IsSchema}
+use Rattle.script_form.specs.declared.config.Config.{Config}
+use Rattle.script_form.specs.declared.config.WarmSetting.{WarmSetting}
+use Rattle.script_form.specs.ReadConfig.{config_of}
+
+-- from low to high
+abbrev pub IsWithin : ℕ → ℕ → ℕ → Type 0
+IsWithin low high n = (low ≤ n) × (n ≤ high)
+
+-- a percentage, or a number of entries
+abbrev pub IsWarmSetting : WarmSetting → Type 0
+IsWarmSetting warm = MatchBool warm.percent (warm.number ≤ 100) (warm.number ≤ 4096)
+
+-- the place of an indexed field
+abbrev pub IsIndexed : Fields → ℕ → Type 0
+IsIndexed s n = IsSomeAnd (slice_get s.list n) (λ f. IsTrue f.indexed)
+
+pub record IsConfig (c : Config) : Type 0 where
+  pub schema : IsSchema c.schema
+  pub filter_size : IsWithin 1 4096 c.filter_size
+  pub filter_warm : IsWarmSetting c.filter_warm
+  pub result_size : IsWithin 1 4096 c.result_size
+  pub result_warm : IsWarmSetting c.result_warm
+  pub document_size : IsWithin 1 4096 c.document_size
+  pub window : IsWithin 1 4096 c.window
+  pub most_docs : IsWithin 1 4096 c.most_docs
+  pub max_warming : IsWithin 1 4 c.max_warming
+  pub most_clauses : IsWithin 1 65535 c.most_clauses
+  pub warmers : IsWithin 1 4 c.warmers
+  pub df : MatchOption c.df ⊤ (IsIndexed c.schema)
+
+-- a configuration that some input begins with keeps them
+abbrev pub ReadConfigIsWithinRanges : Type 0
+ReadConfigIsWithinRanges = (input : List ℕ) (c : Config) → config_of input ≡ Ok c → IsConfig c
