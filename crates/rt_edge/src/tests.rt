@@ -1,6 +1,8 @@
 ghost use Rattle.std.specs.Prelude.{◌<◌, length};
 
 use super::*;
+use std::io;
+use std::io::{Read, Write};
 use std::process::Abort;
 use std::test::Fail;
 
@@ -115,15 +117,111 @@ fn a_sink_holds_pieces_and_fails_where_told(rt: HostRuntime) -> Result<(), Fail>
     Ok(())
 }
 
-#[test]
-fn the_standard_input_answers(rt: HostRuntime) {
-    let mut source = StdSource::new(rt.stdin());
-    let mut into = [0; 8];
-    assert!(rt; matches!(source.read(&mut into), Ok(0..=8) | Err(Failed)));
+// A stream of std that gives or takes a byte a call, and fails at one call, a flush among them.
+#[derive(Drop)]
+struct Drip {
+    bytes: Vec<u8>,
+    at: usize,
+    calls: u32,
+    fails_at: u32,
+}
+
+impl Drip {
+    fn new(bytes: Vec<u8>, fails_at: u32) -> Drip {
+        Drip {
+            bytes,
+            at: 0,
+            calls: 0,
+            fails_at,
+        }
+    }
+
+    // Counts a call, and fails where it is the one that is to.
+    fn call(&mut self) -> io::Result<()> {
+        let call = self.calls;
+        self.calls = self.calls.saturating_add(1);
+        if call == self.fails_at {
+            return Err(io::Error::from(io::ErrorKind::Interrupted));
+        }
+        Ok(())
+    }
+}
+
+impl Read for Drip {
+    fn read(&mut self, buf: &mut [u8]) -> io::Result<usize> {
+        self.call()?;
+        let Some(&byte) = self.bytes.get(self.at) else {
+            return Ok(0);
+        };
+        let Some(room) = buf.first_mut() else {
+            return Ok(0);
+        };
+        *room = byte;
+        self.at += 1;
+        Ok(1)
+    }
+}
+
+impl Write for Drip {
+    fn write(&mut self, buf: &[u8]) -> io::Result<usize> {
+        self.call()?;
+        match buf.first() {
+            Some(&byte) if self.bytes.len() < 3 && self.bytes.push(byte).is_ok() => Ok(1),
+            _ => Ok(0),
+        }
+    }
+
+    fn flush(&mut self) -> io::Result<()> {
+        self.call()
+    }
 }
 
 #[test]
-fn the_standard_output_takes_bytes(rt: HostRuntime) {
+fn streams_of_a_byte_a_call_fail_where_their_calls_do(rt: HostRuntime) -> Result<(), Fail> {
+    for (fails_at, answers) in [
+        (9, [Ok(&b"a"[..]), Ok(b"b"), Ok(b""), Ok(b"")]),
+        (0, [Err(Failed), Ok(b"a"), Ok(b"b"), Ok(b"")]),
+        (1, [Ok(b"a"), Err(Failed), Ok(b"b"), Ok(b"")]),
+        (2, [Ok(b"a"), Ok(b"b"), Err(Failed), Ok(b"")]),
+    ] {
+        let mut source = Reading::new(Drip::new(b"ab".to_vec(rt.alloc())?, fails_at));
+        let mut into = [0; 8];
+        for want in answers {
+            assert_eq!(rt;
+                next(&mut source, &mut into),
+                want,
+                "where call {fails_at} fails"
+            );
+        }
+    }
+
+    for (fails_at, writes, flush, held) in [
+        (9, [Ok(1), Ok(1), Ok(1), Err(Failed)], Ok(()), b"abc"),
+        (0, [Err(Failed), Ok(1), Ok(1), Ok(1)], Ok(()), b"abc"),
+        (2, [Ok(1), Ok(1), Err(Failed), Ok(1)], Ok(()), b"abc"),
+        (4, [Ok(1), Ok(1), Ok(1), Err(Failed)], Err(Failed), b"abc"),
+    ] {
+        let mut inner = Drip::new(Vec::new(rt.alloc()), fails_at);
+        let mut sink = Writing::new(&mut inner);
+        let line = b"abcdefg";
+        let mut at = 0;
+        for want in writes {
+            assert!(rt; at < line.len());
+            let answer = sink.write(&line[at..]);
+            assert_eq!(rt; answer, want, "where call {fails_at} fails");
+            at += answer.unwrap_or(0);
+        }
+        assert_eq!(rt; sink.flush(), flush, "where call {fails_at} fails");
+        assert_eq!(rt; inner.bytes.as_slice(), held.as_slice());
+    }
+    Ok(())
+}
+
+#[test]
+fn the_standard_streams_answer(rt: HostRuntime) {
+    let mut source = StdSource::new(rt.stdin());
+    let mut into = [0; 8];
+    assert!(rt; matches!(source.read(&mut into), Ok(0..=8) | Err(Failed)));
     let mut sink = StdSink::new(rt.stdout());
     assert_eq!(rt; sink.write(b"salyombi\n"), Ok(9));
     assert_eq!(rt; sink.flush(), Ok(()));
