@@ -200,12 +200,6 @@ fn compare(
     Ok(())
 }
 
-#[test]
-fn bodies_read_to_documents_or_their_first_fault(rt: HostRuntime) -> Result<(), Fail> {
-    compare(&rt, rt.alloc(), SHOP, &SHOP_BODIES)?;
-    compare(&rt, rt.alloc(), MANY, &MANY_BODIES)
-}
-
 // A body but for one field's value, and the fault of a bad one.
 struct Frame {
     before: &'static str,
@@ -244,16 +238,6 @@ fn compare_value(
         read_back(alloc, schema, body.as_str())? == wanted,
         "at {body}"
     );
-    Ok(())
-}
-
-#[test]
-fn whole_numbers_end_at_64_bits(rt: HostRuntime) -> Result<(), Fail> {
-    let schema = schema_of(rt.alloc(), SHOP)?;
-    for (value, as_number, as_text) in &NUMBERS {
-        compare_value(&rt, rt.alloc(), &schema, &PRICE, value, as_number)?;
-        compare_value(&rt, rt.alloc(), &schema, &CAT, value, as_text)?;
-    }
     Ok(())
 }
 
@@ -302,8 +286,15 @@ fn compare_long(
 }
 
 #[test]
-fn long_values_and_deep_bodies_are_refused(rt: HostRuntime) -> Result<(), Fail> {
+fn bodies_read_to_documents_or_their_first_fault(rt: HostRuntime) -> Result<(), Fail> {
     let alloc = rt.alloc();
+    compare(&rt, alloc, SHOP, &SHOP_BODIES)?;
+    compare(&rt, alloc, MANY, &MANY_BODIES)?;
+    let schema = schema_of(alloc, SHOP)?;
+    for (value, as_number, as_text) in &NUMBERS {
+        compare_value(&rt, alloc, &schema, &PRICE, value, as_number)?;
+        compare_value(&rt, alloc, &schema, &CAT, value, as_text)?;
+    }
     let full = "x".repeat(alloc, 32766)?;
     compare_long(&rt, alloc, SHOP, full.as_str(), &LONG_SHOP)?;
     compare_long(&rt, alloc, MANY, full.as_str(), &LONG_MANY)?;

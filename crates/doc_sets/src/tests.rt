@@ -4,11 +4,10 @@ ghost use Rattle.doc_sets.specs.declared.TheConstants.{MAX_DOCS};
 
 use crate::{DocList, DocNo, DocSet, MAX_DOCS, NoMemory};
 use std::alloc::{AllocError, Global};
-use std::collections::BTreeSet;
 use std::process::Abort;
 use std::test::Fail;
 
-/// Whether the numbers ascend strictly and are numbers of documents.
+// Whether the numbers ascend strictly and are numbers of documents.
 fn ascends(numbers: &[DocNo]) -> bool
     ensures rising { IsTrue result → IsStrictlyIncreasing numbers.now }
     ensures documents { IsTrue result → All (λ n. n < MAX_DOCS) numbers.now }
@@ -29,7 +28,7 @@ fn set_of(rt: &impl Abort, alloc: Global, numbers: &[DocNo]) -> Result<DocSet, N
     DocSet::from_sorted(alloc, numbers)
 }
 
-/// Each answer of the set is that of the ascending list.
+// Each answer of the set is that of the ascending list.
 fn check(rt: &impl Abort, set: &DocSet, want: &[DocNo], what: &str) {
     assert_eq!(rt; set.len() as usize, want.len(), "the length of {what}");
     let mut rest = want;
@@ -57,58 +56,11 @@ fn check(rt: &impl Abort, set: &DocSet, want: &[DocNo], what: &str) {
     assert!(rt; !set.has(MAX_DOCS) && !set.has(u32::MAX), "beyond {what}");
 }
 
-/// The three operations answer as those of a search tree.
-fn compare(rt: &impl Abort, alloc: Global, left: &[DocNo], right: &[DocNo]) -> Result<(), Fail> {
-    let first = set_of(rt, alloc, left)?;
-    let second = set_of(rt, alloc, right)?;
-    check(rt, &first, left, "the left set");
-    check(rt, &second, right, "the right set");
-    let mut first_tree = BTreeSet::new(alloc);
-    for &number in left {
-        first_tree.insert(number)?;
-    }
-    let mut second_tree = BTreeSet::new(alloc);
-    for &number in right {
-        second_tree.insert(number)?;
-    }
-    let mut both = Vec::new(alloc);
-    let mut lacking = Vec::new(alloc);
-    for number in &first_tree {
-        if second_tree.contains(number) {
-            both.push(*number)?;
-        } else {
-            lacking.push(*number)?;
-        }
-    }
-    for &number in right {
-        first_tree.insert(number)?;
-    }
-    let mut either = Vec::new(alloc);
-    for number in &first_tree {
-        either.push(*number)?;
-    }
-    check(rt, &first.and(alloc, &second)?, &both, "what both have");
-    check(rt, &first.or(alloc, &second)?, &either, "what either has");
-    check(
-        rt,
-        &first.minus(alloc, &second)?,
-        &lacking,
-        "what the right one lacks",
-    );
-    Ok(())
-}
-
-/// About `permille` of each thousand numbers below `limit`, by a linear congruential generator.
-fn drawn(alloc: Global, seed: u64, limit: u32, permille: u64) -> Result<Vec<DocNo>, AllocError> {
-    let mut state = seed;
+// All numbers below `limit`.
+fn below(alloc: Global, limit: u32) -> Result<Vec<DocNo>, AllocError> {
     let mut numbers = Vec::new(alloc);
     for number in 0..limit {
-        state = state
-            .wrapping_mul(6_364_136_223_846_793_005)
-            .wrapping_add(1_442_695_040_888_963_407);
-        if (state >> 33) % 1000 < permille {
-            numbers.push(number)?;
-        }
+        numbers.push(number)?;
     }
     Ok(numbers)
 }
@@ -150,54 +102,6 @@ fn written_sets(rt: HostRuntime) -> Result<(), Fail> {
 }
 
 #[test]
-fn full_set(rt: HostRuntime) -> Result<(), Fail> {
-    let alloc = rt.alloc();
-    let full = set_of(&rt, alloc, &drawn(alloc, 1, MAX_DOCS, 1000)?)?;
-    let ends = set_of(&rt, alloc, &[0, 262_143])?;
-    assert_eq!(rt; full.len(), 262_144);
-    assert!(rt; full.has(0) && full.has(262_143) && !full.has(262_144));
-    check(&rt, &full.and(alloc, &ends)?, &[0, 262_143], "the ends");
-    check(&rt, &ends.minus(alloc, &full)?, &[], "nothing");
-    check(&rt, &full.minus(alloc, &full)?, &[], "nothing");
-    assert_eq!(rt; full.or(alloc, &ends)?.len(), 262_144);
-    let inner = full.minus(alloc, &ends)?;
-    assert_eq!(rt; inner.len(), 262_142);
-    assert!(rt; !inner.has(0) && inner.has(1) && inner.has(262_142) && !inner.has(262_143));
-    assert_eq!(rt; inner.iter().next(), Some(1));
-    Ok(())
-}
-
-#[test]
-fn drawn_sets(rt: HostRuntime) -> Result<(), Fail> {
-    let alloc = rt.alloc();
-    // How far the sets reach, and how many of a thousand numbers each has: none, all, lists and bits.
-    let rows = [
-        (2, 1000, 2, 1000),
-        (3, 1000, 3, 1000),
-        (3, 1000, 2, 1000),
-        (64, 1000, 129, 1000),
-        (70, 20, 130, 1000),
-        (1000, 30, 1000, 33),
-        (5000, 2, 5000, 3),
-        (2000, 500, 9000, 3),
-        (9000, 3, 2000, 500),
-        (8000, 31, 8000, 32),
-        (3000, 900, 4000, 100),
-        (4000, 1000, 4000, 1000),
-        (20_000, 4, 200, 1000),
-        (4000, 1000, 0, 0),
-    ];
-    let mut seed = 1;
-    for (left_limit, left_part, right_limit, right_part) in rows {
-        let left = drawn(alloc, seed, left_limit, left_part)?;
-        let right = drawn(alloc, seed.wrapping_add(1), right_limit, right_part)?;
-        compare(&rt, alloc, &left, &right)?;
-        seed = seed.wrapping_add(2);
-    }
-    Ok(())
-}
-
-#[test]
 fn forms_by_size(rt: HostRuntime) -> Result<(), Fail> {
     let alloc = rt.alloc();
     // Up to where a set has all numbers, its last one, and whether a row takes fewer bytes than its list.
@@ -210,19 +114,19 @@ fn forms_by_size(rt: HostRuntime) -> Result<(), Fail> {
         (8191, 262_143, false),
         (8192, 262_143, true),
     ];
-    for (below, last, bits) in rows {
-        let mut numbers = drawn(alloc, 1, below, 1000)?;
+    for (limit, last, bits) in rows {
+        let mut numbers = below(alloc, limit)?;
         numbers.push(last)?;
         let set = set_of(&rt, alloc, &numbers)?;
         check(&rt, &set, &numbers, "a set near the change of form");
-        assert_eq!(rt; set.form().1, bits, "the numbers below {below}, and {last}");
+        assert_eq!(rt; set.form().1, bits, "the numbers below {limit}, and {last}");
     }
     let one = set_of(&rt, alloc, &[2])?;
     let two = set_of(&rt, alloc, &[0, 1])?;
     let three = two.or(alloc, &one)?;
     assert_eq!(rt; three.form(), (8, true));
     assert!(rt; !three.minus(alloc, &one)?.form().1 && !three.and(alloc, &two)?.form().1);
-    let full = set_of(&rt, alloc, &drawn(alloc, 1, MAX_DOCS, 1000)?)?;
+    let full = set_of(&rt, alloc, &below(alloc, MAX_DOCS)?)?;
     assert_eq!(rt; full.form(), (32 * 1024, true));
     let ten = [
         0, 9, 100, 2000, 30_000, 70_000, 99_999, 200_000, 200_001, 262_143,
