@@ -6,5 +6,6 @@ pub mod Configs
 pub mod Checks
 pub mod Values
 pub mod Ranges
+pub mod ScriptRanges
 pub mod Decimals
 pub mod EmptyLists

@@ -26,7 +26,7 @@ use Rattle.script_form.specs.declared.member.CacheSetting.{CacheSetting}
 
 -- ---- results and options that give a value
 
-pub then_ok : {A B : Type 0} (r : Result A ConfigRefusal) (next : A → Result B ConfigRefusal) (y : B) → result_then r next ≡ Ok y → (x : A) × (r ≡ Ok x) × (next x ≡ Ok y)
+pub then_ok : {A B E : Type 0} (r : Result A E) (next : A → Result B E) (y : B) → result_then r next ≡ Ok y → (x : A) × (r ≡ Ok x) × (next x ≡ Ok y)
 then_ok (Ok x) next y h = (x, refl, h)
 then_ok (Err e) next y h = absurd (cc)
 
@@ -51,7 +51,7 @@ module _ {A : Type 0} (P : A → Type 0) (missing : A) (reads : Data → Option 
   pub checked : (at : ℕ) (name : List ℕ) (d : Data) (x : A) → P missing → ((e : Data) (y : A) → reads e ≡ Some y → P y) → check at name missing reads d ≡ Ok x → P x
   checked at name d x here there h = member_cases (get name d) x here there (ok_some (member_or name missing reads d) _ x h)
 
-if_some : {A : Type 0} (b : Bool) (v n : A) → cond b (Some v) None ≡ Some n → (b ≡ true) × (v ≡ n)
+pub if_some : {A : Type 0} (b : Bool) (v n : A) → cond b (Some v) None ≡ Some n → (b ≡ true) × (v ≡ n)
 if_some true v n h = (refl, cc)
 if_some false v n h = absurd (cc)
 
@@ -70,7 +70,7 @@ whole_is low high d n h =
     let q = if_some (leb low p.0 && leb p.0 high) p.0 n p.2 in
     within_from low high p.0 n q.0 q.1
 
-decimal_is : (low high : ℕ) (text : List ℕ) (n : ℕ) → decimal_within low high text ≡ Some n → IsWithin low high n
+pub decimal_is : (low high : ℕ) (text : List ℕ) (n : ℕ) → decimal_within low high text ≡ Some n → IsWithin low high n
 decimal_is low high text n h =
     let v = digits_value 10 text in
     let q = if_some (is_decimal text && (leb low v && leb v high)) v n h in

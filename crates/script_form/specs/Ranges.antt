@@ -1,10 +1,15 @@
--- What each configuration that is read keeps.
-use Rattle.std.specs.Prelude.{◌≡◌, ℕ, ◌≤◌, List, Ok, ⊤, slice_get, IsSomeAnd, IsTrue, MatchOption}
+-- What each configuration and each script that is read keep.
+use Rattle.std.specs.Prelude.{◌≡◌, ℕ, ◌≤◌, List, length, map, Ok, ⊤, slice_get, IsSomeAnd, IsTrue, MatchOption}
 use Rattle.std.specs.Bool.{MatchBool}
+use Rattle.std.specs.List.{All, range_with_len}
 use Rattle.field_schema.specs.Schema.{Fields, IsSchema}
 use Rattle.script_form.specs.declared.config.Config.{Config}
 use Rattle.script_form.specs.declared.config.WarmSetting.{WarmSetting}
+use Rattle.script_form.specs.declared.script.Line.{Line}
+use Rattle.script_form.specs.declared.script.What.{What}
+use Rattle.script_form.specs.declared.script.What.TheVariants as what
 use Rattle.script_form.specs.ReadConfig.{config_of}
+use Rattle.script_form.specs.ReadScript.{front_of, script_of}
 
 -- from low to high
 abbrev pub IsWithin : ℕ → ℕ → ℕ → Type 0
@@ -35,3 +40,27 @@ pub record IsConfig (c : Config) : Type 0 where
 -- a configuration that some input begins with keeps them
 abbrev pub ReadConfigIsWithinRanges : Type 0
 ReadConfigIsWithinRanges = (input : List ℕ) (c : Config) → config_of input ≡ Ok c → IsConfig c
+
+-- ---- scripts
+
+-- the client that a line asks for, where it asks for something, is one of so many
+abbrev pub HasClient : ℕ → What → Type 0
+HasClient clients (what.Add client body) = IsWithin 1 clients client
+HasClient clients (what.Delete client body) = IsWithin 1 clients client
+HasClient clients (what.Query client body) = IsWithin 1 clients client
+HasClient clients (what.Commit client body) = IsWithin 1 clients client
+HasClient clients what.PhaseEnd = ⊤
+HasClient clients what.Nothing = ⊤
+
+-- lines numbered from 1, of so many clients
+pub record IsScript (clients : ℕ) (ls : List Line) : Type 0 where
+  pub numbers : map (λ l. l.number) ls ≡ range_with_len 1 (length ls)
+  pub asked : All (λ l. HasClient clients l.what) ls
+
+-- the lines before a script's first fault are such lines, and no more than there are in all
+abbrev pub ReadFrontIsScript : Type 0
+ReadFrontIsScript = (clients : ℕ) (ls : List (List ℕ)) → IsScript clients (front_of clients ls).lines × (length (front_of clients ls).lines ≤ length ls)
+
+-- a script without a fault is such lines, one for each
+abbrev pub ReadScriptIsScript : Type 0
+ReadScriptIsScript = (clients : ℕ) (ls : List (List ℕ)) (read : List Line) → script_of clients ls ≡ Ok read → IsScript clients read × (length read ≡ length ls)

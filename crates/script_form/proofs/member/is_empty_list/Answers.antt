@@ -1,4 +1,4 @@
-use Rattle.std.proofs.Common.{arith, ◌∙◌, ap, ◌==◌}
+use Rattle.std.proofs.Common.{arith}
 use Rattle.serde_json.specs.View.{view}
 use Rattle.script_form.proofs.EmptyLists.{empty_is}
 use Rattle.script_form.proofs.member.is_empty_list.Goals as goal
