@@ -1,5 +1,5 @@
 -- A document as contracts see it.
-use Rattle.std.specs.Prelude.{◌≡◌, ℕ, List, [], ◌∷◌}
+use Rattle.std.specs.Prelude.{◌≡◌, ℕ, List, [], ◌∷◌, length, sum_by}
 use Rattle.field_schema.specs.declared.key.Key.{Key}
 use Rattle.field_schema.specs.declared.key.Key.TheVariants as key
 use Rattle.field_schema.specs.Values.{values_at}
@@ -25,3 +25,7 @@ with_id values field = record { values = values; id = first_text (values_at valu
 -- the field has one value, which is the id
 abbrev pub IsIdAt : Document → ℕ → Type 0
 IsIdAt d field = values_at d.values field ≡ key.Str d.id ∷ []
+
+-- how many values it has in all its fields
+abbrev pub value_count : Document → ℕ
+value_count d = sum_by length d.values

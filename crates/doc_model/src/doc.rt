@@ -1,8 +1,8 @@
-ghost use Rattle.std.specs.Prelude.{◌≡◌, [], IfOk, map, slice_index_or};
+ghost use Rattle.std.specs.Prelude.{◌≡◌, ◌<◌, ◌≤◌, [], IfOk, IfSome, IfNone, map, slice_index_or};
 ghost use Rattle.std.specs.Arc.{arc_value};
 ghost use Rattle.field_schema.specs.Outcome.{Gives};
 ghost use Rattle.field_schema.specs.Values.{values_at};
-ghost use Rattle.doc_model.specs.Document.{IsIdAt};
+ghost use Rattle.doc_model.specs.Document.{IsIdAt, value_count};
 ghost use Rattle.doc_model.specs.ReadDoc.{doc_of, is_no_memory};
 
 use crate::object::{read_members, read_object};
@@ -114,6 +114,23 @@ impl Doc {
             Some(values) => values.as_slice(),
             None => &[],
         }
+    }
+
+    /// How many values it has in all its fields together, if they are at most `most`. It costs a step a field.
+    pub fn count_within(&self, most: u64) -> Option<u64>
+        ensures count { IfSome result (λ n. n ≡ value_count self.now) }
+        ensures few { IfSome result (λ n. n ≤ most) }
+        ensures many { IfNone result (most < value_count self.now) }
+    {
+        let mut left = most;
+        for values in &self.fields {
+            let count = values.as_slice().len() as u64;
+            if count > left {
+                return None;
+            }
+            left -= count;
+        }
+        Some(most - left)
     }
 }
 

@@ -10,7 +10,7 @@ use Rattle.registry_machine.specs.Places.{Stands}
 use Rattle.registry_machine.proofs.Runs.{state_at, state_past, allowed_at, state_next, lasts_to, always}
 use Rattle.registry_machine.proofs.Steps.{current_or_0, last_rises, acquired_rises, current_rises, stays_current, IsPast, stays_past, IsSkipped, stays_skipped, Sound, sound_start, sound_kept}
 use Rattle.registry_machine.proofs.Slots.{KeepsSlots, HasOnly, IsFreed, slots_start, slots_kept, only_kept, freed_kept, only_after, freed_after}
-use Rattle.registry_machine.proofs.Stands.{Opens, Ends, Registers, Supersedes, Acquires, opens_next, ends_warming, registers_greatest, registered_ends, supersedes_smaller, acquires_current, acquired_more}
+use Rattle.registry_machine.proofs.Stands.{Opens, Ends, Registers, Supersedes, Acquires, opens_next, ends_warming, registers_greatest, registered_ends, supersedes_smaller, acquires_current, acquired_more, warming_more}
 
 module _ {U D L : Type 0} (l : Limits) (h : List (Entry U D L)) (legal : Legal l h) where
   -- ---- what stands at an index
@@ -104,6 +104,24 @@ module _ {U D L : Type 0} (l : Limits) (h : List (Entry U D L)) (legal : Legal l
       by_test : (t : Bool) → is_in g (state_at l h n).warming ≡ t → is_in g (state_at l h n).warming ≡ true
       by_test true w = w
       by_test false w = absurd (let k = ended_before e n g b (record { opened = opened_by_then m n g a lt; ended = w }) in omega (arith, k, le))
+
+  next_warming : (n g : ℕ) (found : Option (Entry U D L)) → slice_get h n ≡ found → is_in g (state_at l h (suc n)).warming ≡ true → (is_in g (state_at l h n).warming ≡ true) ⊎ Stands opens h n g
+  next_warming n g None at i = inl (subst (λ t. is_in g t.warming ≡ true) (state_past l (start l) h n at) i)
+  next_warming n g (Some e) at i =
+      elim (warming_more l (state_at l h n) e g (allowed_at l h n e legal at) (subst (λ t. is_in g t.warming ≡ true) (state_next l h n e legal at) i)) [ inl before ↦ inl before | inr told ↦ inr (record { entry = e; at = at; told = told }) ]
+
+  -- what is warming was opened before
+  pub warming_opened : (n g : ℕ) → is_in g (state_at l h n).warming ≡ true → (m : ℕ) × (m < n) × Stands opens h m g
+  warming_opened zero g i = absurd (grind arith)
+  warming_opened (suc n) g i = either (next_warming n g (slice_get h n) refl i) (warming_opened n g)
+    where
+      either : (is_in g (state_at l h n).warming ≡ true) ⊎ Stands opens h n g → (is_in g (state_at l h n).warming ≡ true → (m : ℕ) × (m < n) × Stands opens h m g) → (m : ℕ) × (m < suc n) × Stands opens h m g
+      either (inl w) before = let b = before w in (b.0, omega (arith, b.1), b.2)
+      either (inr k) before = (n, omega arith, k)
+
+  -- so an end has its opening before it
+  pub ended_opened : (n g : ℕ) → Stands ends h n g → (m : ℕ) × (m < n) × Stands opens h m g
+  ended_opened n g k = warming_opened n g (ends_at n g k).warming
 
   -- ---- registrations
 

@@ -6,7 +6,7 @@ use Rattle.registry_machine.specs.declared.entry.Entry.TheVariants.{Open, Finish
 use Rattle.registry_machine.specs.Entries.{opens, registers, ends, acquires}
 use Rattle.registry_machine.specs.Machine.{Limits, State, is_in, after}
 use Rattle.registry_machine.specs.Legal.{IsAllowed}
-use Rattle.registry_machine.proofs.Lists.{same_test, test_same, in_last_here, not_in_own}
+use Rattle.registry_machine.proofs.Lists.{same_test, test_same, in_last, in_last_here, in_kept, not_in_own}
 
 -- an opening: the next generation, which is then the last opened and warming
 pub record Opens (l : Limits) (s t : State) (g : ℕ) : Type 0 where
@@ -82,3 +82,10 @@ module _ {U D L : Type 0} (l : Limits) (s : State) where
           elim cases [ inl i ↦ inl i | inr i ↦ inr (ap₂ (λ y z. Some (y, z)) (sym same) i) ]
       by_test false e lt = inl lt
   acquired_more _ g k p lt = inl lt
+
+  -- what is warming was warming before, or is opened
+  pub warming_more : (e : Entry U D L) (g : ℕ) → IsAllowed l s e → is_in g (after s e).warming ≡ true → (is_in g s.warming ≡ true) ⊎ (opens e ≡ Some g)
+  warming_more (Open c u x slot d) g p i = elim (in_last g x s.warming i) [ inl before ↦ inl before | inr same ↦ inr (ap Some (sym same)) ]
+  warming_more (Finish x list) g p i = inl (in_kept g x s.warming i).0
+  warming_more (Superseded x by list) g p i = inl (in_kept g x s.warming i).0
+  warming_more _ g p i = inl i

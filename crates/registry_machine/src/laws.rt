@@ -38,6 +38,7 @@ pub fn generations_count_openings<U, D, L>()
 /// A generation is ended at most once, behind its opening. Registered generations ascend.
 pub fn generations_end_once<U, D, L>()
     ensures once { (l : Limits) (h : List (Entry U D L)) (m n g : ℕ) → Legal l h → Stands ends h m g → Stands ends h n g → m ≡ n }
+    ensures opened { (l : Limits) (h : List (Entry U D L)) (n g : ℕ) → Legal l h → Stands ends h n g → (m : ℕ) × (m < n) × Stands opens h m g }
     ensures behind { (l : Limits) (h : List (Entry U D L)) (m n g : ℕ) → Legal l h → Stands opens h m g → Stands ends h n g → m < n }
     ensures ascending { (l : Limits) (h : List (Entry U D L)) (m n g x : ℕ) → Legal l h → Stands registers h m g → Stands registers h n x → m < n → g < x }
 {}

@@ -1,0 +1,3 @@
+pub mod ItemsTurn
+pub mod Numbers
+pub mod Runs

@@ -1,0 +1,40 @@
+use Rattle.std.proofs.Common.{◌≡◌, ◌++◌, List, ℕ, [], ◌∷◌, length, length-append, arith, refl, ap, sym, subst, ◌∙◌}
+use Rattle.std.specs.Str.{chars, IsUtf8}
+use Rattle.std.specs.Str.Iter.{chars_rest}
+use Rattle.std.proofs.lemmas.Str.{chars-nil, chars_past_char, IsUtf8-past_char}
+use Rattle.query_lexemes.specs.Letters.{letters, letters_from}
+use Rattle.query_lexemes.proofs.letter.letters.Goals as goal
+
+pub loop-c-init : goal.loop-c-init
+unfolding letters
+loop-c-init c =
+    let e : chars_rest c.into_iter-c-iterator.result ≡ c.args.text.now = ap chars_rest c.into_iter-c-iterator.ensures.into_iter_gives ∙ c.chars-c-items.ensures.rest in
+    record {
+      whole = rw (e, c.new-found.ensures.items) refl;
+      place = omega (arith, ap length e);
+      behind = λ h. (cc);
+      utf8 = subst IsUtf8 (sym e) c.utf8.text;
+    }
+
+pub loop-c-preserved : goal.loop-c-preserved
+loop-c-preserved c =
+    let e = c.in-Some.ensures.steps.0 in
+    let utf8 = c.loop-c.invariant.utf8 in
+    let rest = chars_rest c.next.new.self in
+    let step : chars (chars_rest c.loop-c.c-iterator) ≡ c.in-Some.c ∷ chars rest = chars_past_char (chars_rest c.loop-c.c-iterator) rest c.in-Some.c utf8 e in
+    record {
+      whole = rw c.len_utf8-at.ensures.value (sym (c.in_ok-escaping.ensures (chars rest)) ∙ ap (λ cs. c.loop-c.found.items ++ letters_from c.loop-c.escaping c.loop-c.at cs) (sym step) ∙ c.loop-c.invariant.whole);
+      place = omega (arith, simp length-append at (ap length e));
+      behind = λ h. omega arith;
+      utf8 = IsUtf8-past_char (chars_rest c.loop-c.c-iterator) rest c.in-Some.c utf8 e;
+    }
+
+nil : (xs : List ℕ) → length xs ≡ 0 → xs ≡ []
+nil [] e = refl
+nil (x ∷ xs) e = absurd (omega arith)
+
+pub returns : goal.returns
+returns c =
+    let e = nil (chars_rest c.loop-c.c-iterator) c.in-None.ensures.steps.0.0 in
+    let done : chars (chars_rest c.loop-c.c-iterator) ≡ [] = ap chars e ∙ chars-nil in
+    c.in_ok-add_lone.ensures ∙ ap (λ cs. c.loop-c.found.items ++ letters_from c.loop-c.escaping c.loop-c.at cs) (sym done) ∙ c.loop-c.invariant.whole

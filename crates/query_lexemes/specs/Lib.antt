@@ -1,0 +1,4 @@
+pub mod Letters
+pub mod Lexemes
+pub mod Local
+pub mod SortItems

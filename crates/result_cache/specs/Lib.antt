@@ -1,0 +1,4 @@
+pub mod Entries
+pub mod Keys
+pub mod Looks
+pub mod Results

@@ -1,0 +1,9 @@
+pub mod Numbers
+pub mod Frame
+pub mod Take
+pub mod LetGo
+pub mod SplitOff
+pub mod Gather
+pub mod Opening
+pub mod Making
+pub mod Trials

@@ -1,0 +1,74 @@
+-- Facts about lists of entries by the seats' numbers.
+use Rattle.std.proofs.Common.{◌≡◌, ◌≢◌, ◌⊎◌, ℕ, zero, suc, ◌+◌, ◌<◌, ◌≤◌, Bool, true, false, true≢false, eq-eqb, ne_eqb, List, [], ◌∷◌, ◌++◌, sym, refl, ap, ◌∙◌, inl, inr, ⊎_elim, arith}
+use mathlib.Core.Logic.{dite}
+use native.Mathlib.Decide.{ℕ_discrete}
+use Rattle.std.specs.Prelude.{◌||◌, if◌then◌else◌}
+use Rattle.view_cells.specs.declared.board.Listing.{Listing}
+use Rattle.view_cells.specs.Lists.{names, entries_of, first_number, first_alone, others, blank}
+
+-- a test holds or it doesn't
+pub holds_or_not : (b : Bool) → (b ≡ true) ⊎ (b ≡ false)
+holds_or_not true = inl refl
+holds_or_not false = inr refl
+
+module _ {E : Type 0} where
+  pub names_cons : (n : ℕ) (l : Listing E) (ls : List (Listing E)) → names n (l ∷ ls) ≡ true → (l.number ≡ n) ⊎ (names n ls ≡ true)
+  names_cons n l ls has = dite (ℕ_discrete l.number n) (λ e. inl e) (λ ne. inr (sym (ap (λ b. b || names n ls) (ne_eqb l.number n ne)) ∙ has))
+
+  pub names_here : (n : ℕ) (l : Listing E) (ls : List (Listing E)) → l.number ≡ n → names n (l ∷ ls) ≡ true
+  names_here n l ls e = ap (λ b. b || names n ls) (eq-eqb l.number n e)
+
+  pub names_there : (n : ℕ) (l : Listing E) (ls : List (Listing E)) → names n ls ≡ true → names n (l ∷ ls) ≡ true
+  names_there n l ls has = dite (ℕ_discrete l.number n) (λ e. names_here n l ls e) (λ ne. ap (λ b. b || names n ls) (ne_eqb l.number n ne) ∙ has)
+
+  pub entries_here : (n : ℕ) (l : Listing E) (ls : List (Listing E)) → l.number ≡ n → entries_of n (l ∷ ls) ≡ l.entries
+  entries_here n l ls e = ap (λ b. if b then l.entries else entries_of n ls) (eq-eqb l.number n e)
+
+  pub entries_there : (n : ℕ) (l : Listing E) (ls : List (Listing E)) → l.number ≢ n → entries_of n (l ∷ ls) ≡ entries_of n ls
+  entries_there n l ls ne = ap (λ b. if b then l.entries else entries_of n ls) (ne_eqb l.number n ne)
+
+  -- two lists of lists, one after the other
+  pub names_append : (n : ℕ) (xs ys : List (Listing E)) → names n (xs ++ ys) ≡ true → (names n xs ≡ true) ⊎ (names n ys ≡ true)
+  names_append n [] ys has = inr has
+  names_append n (x ∷ xs) ys has = ⊎_elim (λ e. inl (names_here n x xs e)) (λ h. ⊎_elim (λ a. inl (names_there n x xs a)) (λ b. inr b) (names_append n xs ys h)) (names_cons n x (xs ++ ys) has)
+
+  pub entries_left : (n : ℕ) (xs ys : List (Listing E)) → names n xs ≡ true → entries_of n (xs ++ ys) ≡ entries_of n xs
+  entries_left n [] ys has = absurd (true≢false (sym has))
+  entries_left n (x ∷ xs) ys has = dite (ℕ_discrete x.number n)
+      (λ e. entries_here n x (xs ++ ys) e ∙ sym (entries_here n x xs e))
+      (λ ne. entries_there n x (xs ++ ys) ne ∙ entries_left n xs ys (⊎_elim (λ e. absurd (ne e)) (λ h. h) (names_cons n x xs has)) ∙ sym (entries_there n x xs ne))
+
+  pub entries_right : (n : ℕ) (xs ys : List (Listing E)) → names n xs ≡ false → entries_of n (xs ++ ys) ≡ entries_of n ys
+  entries_right n [] ys not = refl
+  entries_right n (x ∷ xs) ys not =
+      let ne : x.number ≢ n = λ e. true≢false (sym (names_here n x xs e) ∙ not) in
+      let less : names n xs ≡ false = ⊎_elim (λ h. absurd (true≢false (sym (names_there n x xs h) ∙ not))) (λ h. h) (holds_or_not (names n xs)) in
+      entries_there n x (xs ++ ys) ne ∙ entries_right n xs ys less
+
+  -- a first list and those behind it, none of which is the first seat's
+  pub first_names : (n : ℕ) (ls : List (Listing E)) → names n (first_alone ls) ≡ true → (first_number ls ≡ n) × (names n ls ≡ true) × (entries_of n ls ≡ entries_of n (first_alone ls))
+  first_names n [] has = absurd (true≢false (sym has))
+  first_names n (l ∷ ls) has = ⊎_elim (λ e. (e, names_here n l ls e, entries_here n l ls e ∙ sym (entries_here n l [] e))) (λ h. absurd (true≢false (sym h))) (names_cons n l [] has)
+
+  pub others_names : (n : ℕ) (ls : List (Listing E)) → names (first_number ls) (others ls) ≡ false → names n (others ls) ≡ true → (names n ls ≡ true) × (entries_of n ls ≡ entries_of n (others ls))
+  others_names n [] alone has = absurd (true≢false (sym has))
+  others_names n (l ∷ ls) alone has =
+      (names_there n l ls has, entries_there n l ls (λ e. true≢false (sym has ∙ ap (λ m. names m ls) (sym e) ∙ alone)))
+
+  pub blank_entries : (n first count : ℕ) → entries_of {E = E} n (blank first count) ≡ []
+  blank_entries n first zero = refl
+  blank_entries n first (suc count) = dite (ℕ_discrete first n) (λ e. entries_here n (record { number = first; entries = [] }) (blank (first + 1) count) e)
+      (λ ne. entries_there n (record { number = first; entries = [] }) (blank (first + 1) count) ne ∙ blank_entries n (first + 1) count)
+
+-- empty lists have the numbers that they were made for
+pub blank_names : (E : Type 0) (n first count : ℕ) → names {E = E} n (blank first count) ≡ true → (first ≤ n) × (n < first + count)
+blank_names E n first zero has = absurd (true≢false (sym has))
+blank_names E n first (suc count) has = ⊎_elim (λ (e : first ≡ n). (omega arith, omega arith)) (λ h. let t = blank_names E n (first + 1) count h in (omega arith, omega arith))
+    (names_cons n (record { number = first; entries = [] }) (blank (first + 1) count) has)
+
+pub blank_alone : (E : Type 0) (first count : ℕ) → names {E = E} first (blank (first + 1) count) ≡ false
+blank_alone E first count = ⊎_elim (λ h. let t = blank_names E first (first + 1) count h in absurd (omega arith)) (λ h. h) (holds_or_not (names {E = E} first (blank (first + 1) count)))
+
+pub blank_first : (E : Type 0) (first count : ℕ) → 1 ≤ count → (first_number (blank {E = E} first count) ≡ first) × (names first (blank {E = E} first count) ≡ true)
+blank_first E first zero some = absurd (omega arith)
+blank_first E first (suc count) some = (refl, names_here first (record { number = first; entries = [] }) (blank (first + 1) count) refl)

@@ -1,0 +1,8 @@
+pub mod Lists
+pub mod Rule
+pub mod Steps
+pub mod Seats
+pub mod Helds
+pub mod Making
+pub mod Trials
+pub mod Lending
