@@ -2,13 +2,13 @@
 use Rattle.std.specs.Prelude.{ℕ, List, [], ◌∷◌, ◌++◌, length, map, Bool, true, false, not, ◌&&◌, ◌||◌, ◌==◌, nat_le, nat_lt, if◌then◌else◌, codes, slice_get, encode_utf8}
 use Rattle.std.specs.Option.{option_map_or}
 use Rattle.std.specs.List.{flat_map}
+use Rattle.std.specs.Char.{is_ascii_alphanumeric}
 use Rattle.std.specs.Fmt.{signed_decimal}
 use Rattle.std.specs.Str.{chars}
 use Rattle.field_schema.specs.declared.field.Field.{Field}
 use Rattle.field_schema.specs.declared.key.Key.{Key}
 use Rattle.field_schema.specs.declared.key.Key.TheVariants as key
 use Rattle.field_schema.specs.Bytes.{bytes_eq}
-use Rattle.field_schema.specs.Names.{is_letter, is_digit}
 use Rattle.field_schema.specs.ValueTexts.{truth_text}
 use Rattle.query_tree.specs.declared.query.End.{End}
 use Rattle.query_tree.specs.declared.query.End.TheVariants as end
@@ -39,7 +39,7 @@ in_quotes text = codes "\"" ++ flat_map quoted_char (chars text) ++ codes "\""
 
 -- an ASCII letter or digit, or a character past ASCII other than U+3000
 abbrev pub is_plain : ℕ → Bool
-is_plain c = is_letter c || is_digit c || (nat_le 128 c && not (c == 12288))
+is_plain c = is_ascii_alphanumeric c || (nat_le 128 c && not (c == 12288))
 
 -- `\` before every other character
 abbrev pub escaped_char : ℕ → List ℕ

@@ -70,7 +70,8 @@ fn add(
     not: &mut Vec<Query>,
 ) -> Result<(), NoMemory>
     ensures must { OnOk result (must.new.items ≡ must.old.items ++ kept as_.Must mark query) }
-    ensures should { OnOk result (should.new.items ≡ should.old.items ++ kept as_.Should mark query) }
+    ensures should { OnOk result (should.new.items
+        ≡ should.old.items ++ kept as_.Should mark query) }
     ensures not { OnOk result (not.new.items ≡ not.old.items ++ kept as_.Not mark query) }
 {
     match mark {

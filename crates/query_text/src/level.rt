@@ -78,7 +78,8 @@ impl Clauses {
     }
 
     pub(crate) fn pop(&mut self) -> Option<Clause>
-        ensures { MatchOption result ((self.old ≡ []) × (self.new ≡ [])) (λ c. self.old ≡ self.new ++ c ∷ []) }
+        ensures { MatchOption result ((self.old ≡ []) × (self.new ≡ []))
+            (λ c. self.old ≡ self.new ++ c ∷ []) }
     {
         self.items.pop()
     }
@@ -248,7 +249,8 @@ impl Levels {
     }
 
     pub(crate) fn pop(&mut self) -> Option<Level>
-        ensures { MatchOption result ((self.old ≡ []) × (self.new ≡ [])) (λ l. self.old ≡ l ∷ self.new) }
+        ensures { MatchOption result ((self.old ≡ []) × (self.new ≡ []))
+            (λ l. self.old ≡ l ∷ self.new) }
     {
         self.items.pop()
     }

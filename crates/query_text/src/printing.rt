@@ -17,7 +17,8 @@ fn write(out: &mut String, text: &str) -> Result<(), NoMemory>
 
 // A field's name and a colon.
 fn write_name(out: &mut String, schema: &Schema, field: FieldNo) -> Result<(), NoMemory>
-    ensures { OnOk result (string_bytes out.new ≡ string_bytes out.old ++ named schema.now.list field) }
+    ensures { OnOk result (string_bytes out.new
+        ≡ string_bytes out.old ++ named schema.now.list field) }
 {
     if let Some(field) = schema.get(field) {
         write(out, field.name.get())?;
@@ -38,7 +39,8 @@ fn write_quoted_char(out: &mut String, c: char) -> Result<(), NoMemory>
 
 // The characters of a text inside quotes.
 fn write_quoted(out: &mut String, text: &str) -> Result<(), NoMemory>
-    ensures { OnOk result (string_bytes out.new ≡ string_bytes out.old ++ flat_map quoted_char (chars text.now)) }
+    ensures { OnOk result (string_bytes out.new
+        ≡ string_bytes out.old ++ flat_map quoted_char (chars text.now)) }
 {
     for c in text.chars() {
         write_quoted_char(out, c)?;
@@ -80,7 +82,8 @@ fn is_operator(text: &str) -> bool
 }
 
 fn write_escapes(out: &mut String, text: &str) -> Result<(), NoMemory>
-    ensures { OnOk result (string_bytes out.new ≡ string_bytes out.old ++ flat_map escaped_char (chars text.now)) }
+    ensures { OnOk result (string_bytes out.new
+        ≡ string_bytes out.old ++ flat_map escaped_char (chars text.now)) }
 {
     for c in text.chars() {
         write_escaped_char(out, c)?;
@@ -101,7 +104,8 @@ fn write_escaped(out: &mut String, text: &str) -> Result<(), NoMemory>
 
 // A key in quotes.
 fn write_key(alloc: Global, out: &mut String, key: &Key) -> Result<(), NoMemory>
-    ensures { OnOk result (string_bytes out.new ≡ string_bytes out.old ++ in_quotes (key_text key.now)) }
+    ensures { OnOk result (string_bytes out.new
+        ≡ string_bytes out.old ++ in_quotes (key_text key.now)) }
 {
     match key {
         Key::Str(text) | Key::Token(text) => write_in_quotes(out, text.get()),
@@ -163,7 +167,8 @@ fn closing(end: &End) -> &'static str
 
 // A range.
 fn write_range(alloc: Global, out: &mut String, low: &End, high: &End) -> Result<(), NoMemory>
-    ensures { OnOk result (string_bytes out.new ≡ string_bytes out.old ++ range_text low.now high.now) }
+    ensures { OnOk result (string_bytes out.new
+        ≡ string_bytes out.old ++ range_text low.now high.now) }
 {
     write(out, opening(low))?;
     write_end(alloc, out, low)?;
@@ -174,7 +179,8 @@ fn write_range(alloc: Global, out: &mut String, low: &End, high: &End) -> Result
 
 // A space, where something stands before.
 fn write_space(out: &mut String, begun: bool) -> Result<(), NoMemory>
-    ensures { OnOk result (string_bytes out.new ≡ string_bytes out.old ++ (if begun then codes " " else [])) }
+    ensures { OnOk result (string_bytes out.new
+        ≡ string_bytes out.old ++ (if begun then codes " " else [])) }
 {
     if begun {
         write(out, " ")?;
@@ -191,7 +197,8 @@ fn write_part(
     schema: &Schema,
     query: &Query,
 ) -> Result<(), NoMemory>
-    ensures { OnOk result (string_bytes out.new ≡ string_bytes out.old ++ part_text schema.now.list query.now) }
+    ensures { OnOk result (string_bytes out.new
+        ≡ string_bytes out.old ++ part_text schema.now.list query.now) }
 {
     match query {
         Query::All => write(out, "*:*"),
@@ -239,7 +246,8 @@ fn write_parts(
     not: &[Query],
 ) -> Result<(), NoMemory>
     ensures { OnOk result (string_bytes out.new ≡ string_bytes out.old
-        ++ parts_text (map (part_text schema.now.list) must.now) (map (part_text schema.now.list) should.now) (map (part_text schema.now.list) not.now)) }
+        ++ parts_text (map (part_text schema.now.list) must.now)
+        (map (part_text schema.now.list) should.now) (map (part_text schema.now.list) not.now)) }
 {
     write_signed(alloc, out, schema, false, "+", must)?;
     write_signed(alloc, out, schema, !must.is_empty(), "", should)?;
@@ -277,9 +285,10 @@ fn write_signed(
     Ok(())
 }
 
-/// The text of a query; each query that a text reads to is what this text reads to with `Or`.
+/// The text of a query, by which `parse` gives it again with `Or`: that is tested on each row of a table, and not proved.
 ///
-/// It costs the text's length, and three stack frames a level; parsed queries are at most 65 levels deep.
+/// It costs the text's length, and three stack frames a level; parsed queries are at most 65
+/// levels deep.
 pub fn print(alloc: Global, schema: &Schema, query: &Query) -> Result<Text, NoMemory>
     ensures { IfOk result (λ t. t ≡ printed schema.now.list query.now) }
 {

@@ -40,7 +40,8 @@ fn value(
     words: Texts,
 ) -> Result<Query, NoMemory>
     requires { words ≡ words_of schema.now.list level.now what }
-    ensures { IfOk result (λ q. q ≡ value (record { fields = schema.now.list; op = op }) level.now what) }
+    ensures { IfOk result (λ q.
+        q ≡ value (record { fields = schema.now.list; op = op }) level.now what) }
 {
     match level.field_for() {
         Some(field) => value_in(alloc, op, kind_at(schema, field), field, what, words),
@@ -104,7 +105,8 @@ fn after(
     words: Texts,
 ) -> Result<(Level, Levels), NoMemory>
     requires { words ≡ words_of schema.now.list level what }
-    ensures { IfOk result (λ r. (r.0, r.1) ≡ after (record { fields = schema.now.list; op = op }) level outer what) }
+    ensures { IfOk result (λ r.
+        (r.0, r.1) ≡ after (record { fields = schema.now.list; op = op }) level outer what) }
 {
     match what {
         What::Word(_) | What::Prefix(_) | What::Quoted(_) | What::Range { .. } => {
@@ -236,11 +238,12 @@ fn read_letters(
 
 /// The query of a text of the standard query parser, with what its local parameters say.
 ///
-/// Values without a field of their own are of the field `df`, where there is one. `op` joins clauses without a
-/// conjunction. A query, or one in parentheses, has at most `most` clauses.
+/// Values without a field of their own are of the field `df`, where there is one. `op` joins clauses
+/// without a conjunction. A query, or one in parentheses, has at most `most` clauses.
 ///
-/// The fault that counts is the one with the least place in the text, and at one place the first of the variants.
-/// `NoMemory` comes only where memory is wanting. It costs the text's length, and it uses no stack for what is nested.
+/// The fault that counts is the one with the least place in the text, and at one place the first of
+/// the variants. `NoMemory` comes only where memory is wanting. It costs the text's length, and it
+/// uses no stack for what is nested.
 pub fn parse(
     alloc: Global,
     schema: &Schema,

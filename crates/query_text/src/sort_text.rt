@@ -12,7 +12,8 @@ use std::alloc::Global;
 
 /// What is wrong with a sort text, and where: `at` is a byte's place in the text, from 0.
 ///
-/// Of the faults of a text the one with the least place counts, and at one place the first of these.
+/// Of the faults of a text the one with the least place counts, and at one place the first of
+/// these.
 #[derive(Clone, Copy, Debug, PartialEq, Eq)]
 pub enum SortFault {
     /// The text fits no form from here on, or ends unfinished.
@@ -68,7 +69,8 @@ fn sort_by(schema: &Schema, at: usize, name: &str) -> Result<Option<SortBy>, Sor
 #[tactic(auto, unfolding(crate::specs::Sorts::item_keys))]
 fn item_key(schema: &Schema, item: &SortItem) -> Result<Option<SortKey>, SortFault>
     ensures { MatchResult result
-        (λ k. item_keys schema.now.list item.now ≡ Ok (option_to_list k)) (λ e. item_keys schema.now.list item.now ≡ Err e) }
+        (λ k. item_keys schema.now.list item.now ≡ Ok (option_to_list k))
+        (λ e. item_keys schema.now.list item.now ≡ Err e) }
 {
     if item.name.get().is_empty() {
         return Err(SortFault::BadSort { at: item.at });
@@ -108,7 +110,8 @@ fn read_keys(
     letters: &[Letter],
 ) -> Result<Vec<SortKey>, SortFault>
     ensures { MatchResult result (λ v. letters_sort schema.now.list end letters.now ≡ Ok v.items)
-        (λ e. MatchBool (is_no_sort_memory e) ⊤ (letters_sort schema.now.list end letters.now ≡ Err e)) }
+        (λ e. MatchBool (is_no_sort_memory e) ⊤
+        (letters_sort schema.now.list end letters.now ≡ Err e)) }
 {
     let mut keys = Vec::new(alloc);
     if behind_white(letters).is_empty() {
@@ -133,11 +136,12 @@ fn read_keys(
     Ok(keys)
 }
 
-/// The sort of a text: names, each with `asc` or `desc`, with commas between them; `score` adds nothing.
+/// The sort of a text: names, each with `asc` or `desc`, with commas between them; `score` adds
+/// nothing.
 ///
-/// A field need not be indexed or stored to sort by. The fault that counts is the one with the least place in the
-/// text, and at one place the first of the variants. `NoMemory` comes only where memory is wanting. It costs the
-/// text's length, and for each item a comparison a field.
+/// A field need not be indexed or stored to sort by. The fault that counts is the one with the least
+/// place in the text, and at one place the first of the variants. `NoMemory` comes only where memory
+/// is wanting. It costs the text's length, and for each item a comparison a field.
 pub fn read_sort(alloc: Global, schema: &Schema, text: &str) -> Result<Sort, SortFault>
     ensures { Gives is_no_sort_memory result (sort_of schema.now.list text.now) }
 {
