@@ -169,12 +169,6 @@ module _ {X Y : Type 0} (f : X → Y) where
   map-apply_swaps xs [] = refl
   map-apply_swaps xs (m ∷ ms) = map-swap (apply_swaps xs ms) m.0 m.1 ∙ ap (λ z. swap z m.0 m.1) (map-apply_swaps xs ms)
 
-  in_range : (xs : List X) (ms : List (ℕ × ℕ)) → SwapsInRange (length xs) ms → SwapsInRange (length (map f xs)) ms
-  in_range xs ms h = rw (length-map xs f) h
-
-  pub IsPermutation-map : (xs ys : List X) → IsPermutation xs ys → IsPermutation (map f xs) (map f ys)
-  IsPermutation-map xs ys h = record { moves = h.moves; below = in_range xs h.moves h.below; is = ap (map f) h.is ∙ map-apply_swaps xs h.moves }
-
   -- what a permutation of the images is the image of
   pub moved_back : (xs : List X) (zs : List Y) → IsPermutation (map f xs) zs → (ys : List X) × IsPermutation xs ys × (map f ys ≡ zs)
   moved_back xs zs h = (

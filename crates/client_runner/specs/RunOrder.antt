@@ -32,3 +32,11 @@ turns_from phase index (line ∷ lines) =
 -- a line that asks for something is that of a client with a small number
 abbrev pub HasClient : What → Type 0
 HasClient w = IfSome (client_of w) (λ client. client < 16)
+
+-- a request that nobody made
+abbrev pub nobody : Call
+nobody = record { phase = 0; client = 0; line = 0; verb = add; body = [] }
+
+-- the request of a turn
+abbrev pub call_at : List Line → Turn → Call
+call_at script t = unwrap_or (option_and_then (λ line. call_as t.phase line.number line.what) (slice_get script t.index)) nobody

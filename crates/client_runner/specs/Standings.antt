@@ -1,18 +1,27 @@
--- The runner's state as the serial run's.
-use Rattle.std.specs.Prelude.{◌≡◌, ℕ, ◌+◌, ◌*◌, ◌<◌, ◌^◌, List, length, map, Option}
+-- Where a serial run stands.
+use Rattle.std.specs.Prelude.{◌≡◌, ℕ, ◌+◌, ◌*◌, ◌<◌, ◌^◌, List, [], ◌∷◌, ◌++◌, length, map, true, Option, Some, None}
 use Rattle.script_form.specs.declared.config.Config.{Config}
 use Rattle.doc_model.specs.Document.{Document}
 use Rattle.query_tree.specs.declared.query.Query.{Query}
+use Rattle.search_model.specs.Live.{Change, after}
 use Rattle.search_model.specs.Answer.{answer}
-use Rattle.search_model.specs.TermQuery.{first_ten}
 use Rattle.search_model.specs.Reply.{Outcome, found, reply_text, code_of, found_of, docs_of}
-use Rattle.run_laws.specs.Rows as plain
+use Rattle.search_model.specs.TermQuery.{first_ten}
+use Rattle.run_laws.specs.Rows.{RequestRow, SearcherRow}
 use Rattle.run_laws.specs.Calls.{Call}
 use Rattle.client_runner.specs.declared.runner.Head.{Head}
 use Rattle.client_runner.specs.declared.runner.Reply.{Reply}
 use Rattle.client_runner.specs.declared.runner.Runner.{Runner}
-use Rattle.client_runner.specs.Serial.{Standing}
 use Rattle.client_runner.specs.Views.{verb_view, request_view, searcher_view}
+
+-- what the updates leave, what the current searcher sees, the next place, the rows so far, and the searchers
+pub record Standing : Type 0 where
+  pub docs : List Document
+  pub served : List Document
+  pub place : ℕ
+  pub rows : List RequestRow
+  pub earlier : List SearcherRow
+  pub current : SearcherRow
 
 abbrev pub standing : Runner → Standing
 standing r = record {
@@ -24,9 +33,68 @@ standing r = record {
   current = searcher_view r.current;
 }
 
+-- before the first request: the first searcher is registered, and sees nothing
+abbrev pub first : Standing
+first = record {
+  docs = [];
+  served = [];
+  place = 2;
+  rows = [];
+  earlier = [];
+  current = record { generation = 1; opened = 0; ended = 1; registered = true; acquired = 0; from = None };
+}
+
+-- its numbers leave room for n more requests
+pub record HasRoom (n : ℕ) (st : Standing) : Type 0 where
+  pub place : st.place + 2 * n < 2 ^ 64
+  pub generation : st.current.generation + n < 2 ^ 27
+  pub acquired : st.current.acquired + n < 2 ^ 32
+  pub served : length st.served + n < 2 ^ 32
+  pub docs : length st.docs + n < 2 ^ 32
+
+-- ---- what is done
+
+-- a change takes the next place
+abbrev pub changed : Change → Standing → Standing
+changed change st = record st { docs = after st.docs change; place = st.place + 1 }
+
+-- the current searcher is acquired
+abbrev pub acquired : Standing → Standing
+acquired st = record st { current = record st.current { acquired = st.current.acquired + 1 } }
+
+-- the searcher that an opening at this place gives, warmed from the current one and registered at the next place
+abbrev pub next_searcher : Standing → SearcherRow
+next_searcher st = record {
+  generation = st.current.generation + 1;
+  opened = st.place;
+  ended = st.place + 1;
+  registered = true;
+  acquired = 0;
+  from = Some (st.current.generation, st.current.acquired);
+}
+
+-- an opening takes two places, and the new searcher sees what the updates leave
+abbrev pub opened : Standing → Standing
+opened st = record st {
+  served = st.docs;
+  place = st.place + 2;
+  earlier = st.earlier ++ (acquired st).current ∷ [];
+  current = next_searcher st;
+}
+
+-- the row is told behind the others
+abbrev pub told_too : Standing → RequestRow → Standing
+told_too st row = record st { rows = st.rows ++ row ∷ [] }
+
+-- the searchers, the current one last
+abbrev pub searchers_of : Standing → List SearcherRow
+searchers_of st = st.earlier ++ st.current ∷ []
+
+-- ---- rows
+
 -- the request that a head names, with its body
 abbrev pub call_of : Head → List ℕ → Call
-call_of h body = record { phase = 0; client = h.client; line = h.line; verb = verb_view h.verb; body = body }
+call_of h body = record { phase = h.phase; client = h.client; line = h.line; verb = verb_view h.verb; body = body }
 
 -- the outcome of a query for the first ten documents
 abbrev pub found_first_ten : List Document → Query → Outcome
@@ -39,7 +107,7 @@ pub record Shown (c : Config) (o : Outcome) (r : Reply) : Type 0 where
   pub found : r.found ≡ found_of o
   pub docs : r.docs ≡ docs_of o
 
-abbrev pub shown_row : Head → Option ℕ → Option ℕ → Option ℕ → Reply → plain.RequestRow
+abbrev pub shown_row : Head → Option ℕ → Option ℕ → Option ℕ → Reply → RequestRow
 shown_row h place generation ticket r = record {
   client = h.client;
   line = h.line;
@@ -52,11 +120,3 @@ shown_row h place generation ticket r = record {
   found = r.found;
   docs = r.docs;
 }
-
--- its numbers leave room for n more lines
-pub record HasRoom (n : ℕ) (st : Standing) : Type 0 where
-  pub place : st.place + 2 * n < 2 ^ 64
-  pub generation : st.current.generation + n < 2 ^ 32
-  pub acquired : st.current.acquired + n < 2 ^ 32
-  pub served : length st.served + n < 2 ^ 32
-  pub docs : length st.docs + n < 2 ^ 32

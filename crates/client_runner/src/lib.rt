@@ -1,6 +1,6 @@
 //! Runs the clients of a script, and tells their requests and the searchers as rows.
 //!
-//! The runner is serial: it takes the lines in the order of the script and finishes each searcher at once.
+//! The runner is serial: it takes a phase's clients one after another and finishes each searcher at once.
 #![tactic(auto)]
 
 mod index;
@@ -12,6 +12,7 @@ mod rows;
 mod run;
 mod runner;
 mod search;
+mod serve;
 mod term_query;
 
 pub use laws::every_script_has_a_lawful_output;

@@ -1,91 +1,67 @@
-ghost use Rattle.std.specs.Prelude.{◌≡◌, ◌+◌, ◌<◌, ◌≤◌, ◌^◌, IfOk, OnOk, length, vec_len};
-ghost use Rattle.run_laws.specs.Lawful.{Lawful};
+ghost use Rattle.std.specs.Prelude.{◌≡◌, ◌<◌, ◌≤◌, IfOk, OnOk, length, map};
+ghost use Rattle.std.specs.List.{All};
+ghost use Rattle.std.specs.List.Sorted.{IsNonDecreasingBy, IsPermutation};
+ghost use Rattle.script_form.specs.Ranges.{HasClient};
 ghost use Rattle.run_laws.specs.Calls.{call_as};
+ghost use Rattle.run_laws.specs.Lawful.{Ascends, Lawful};
+ghost use Rattle.client_runner.specs.Histories.{GoesByHistory};
 ghost use Rattle.client_runner.specs.Outputs.{output_view};
-ghost use Rattle.run_laws.specs.CallReadings.{commit_of};
-ghost use Rattle.client_runner.specs.Serial.{commit_as, output_at, serve};
-ghost use Rattle.client_runner.specs.Standings.{HasRoom, call_of, standing};
+ghost use Rattle.client_runner.specs.Runs.{FollowsIf, LeavesRoom};
+ghost use Rattle.client_runner.specs.Standings.{HasRoom, searchers_of, standing};
 
+use crate::order::turns;
 use crate::rows::{Output, RequestRows, SearcherList, Verb};
 use crate::runner::{Head, Runner};
-use field_schema::{NoMemory, Text};
+use field_schema::NoMemory;
 use rt_edge::Gate;
 use script_form::{Config, Line, Script, What};
 use std::alloc::Global;
 
 impl Runner {
-    // Opens a searcher for a commit without parameters, or refuses a commit that has some.
-    fn commit(
+    // Serves the request of a line in its turn, if the line asks for something.
+    fn step(
         &mut self,
         alloc: Global,
         config: &Config,
-        head: Head,
-        body: &Text,
+        phase: u32,
+        line: &Line,
     ) -> Result<(), NoMemory>
-        requires { HasRoom 1 (standing self.old) }
-        ensures { OnOk result (standing self.new ≡ commit_as config.now (call_of head body.now) (standing self.old) (commit_of body.now)) }
+        requires warming { 0 < config.now.max_warming }
+        requires room { HasRoom 1 (standing self.old) }
+        ensures follows { OnOk result (FollowsIf config.now (call_as phase line.now.number line.now.what) (standing self.old) (standing self.new)) }
+        ensures room { OnOk result (LeavesRoom (standing self.old) (standing self.new)) }
     {
-        if body.get().is_empty() {
-            self.open(alloc, config, head)
-        } else {
-            self.refuse(alloc, config, head, "NotBuilt")
-        }
+        let (client, verb, body) = match &line.what {
+            What::Add { client, body } => (*client, Verb::Add, body),
+            What::Delete { client, body } => (*client, Verb::Delete, body),
+            What::Query { client, body } => (*client, Verb::Query, body),
+            What::Commit { client, body } => (*client, Verb::Commit, body),
+            What::PhaseEnd | What::Nothing => return Ok(()),
+        };
+        let head = Head {
+            phase,
+            client,
+            line: line.number,
+            verb,
+        };
+        self.serve(alloc, config, head, body.get())
     }
 
-    // Serves a line in its turn.
-    fn step(&mut self, alloc: Global, config: &Config, line: &Line) -> Result<(), NoMemory>
-        requires { HasRoom 1 (standing self.old) }
-        ensures { OnOk result (standing self.new ≡ serve config.now (standing self.old) (call_as 0 line.now.number line.now.what)) }
-    {
-        match &line.what {
-            What::Add { client, body } => {
-                let head = Head {
-                    client: *client,
-                    line: line.number,
-                    verb: Verb::Add,
-                };
-                self.add(alloc, config, head, body.get())
-            }
-            What::Delete { client, body: _ } => {
-                let head = Head {
-                    client: *client,
-                    line: line.number,
-                    verb: Verb::Delete,
-                };
-                self.refuse(alloc, config, head, "NotBuilt")
-            }
-            What::Query { client, body } => {
-                let head = Head {
-                    client: *client,
-                    line: line.number,
-                    verb: Verb::Query,
-                };
-                self.query(alloc, config, head, body.get())
-            }
-            What::Commit { client, body } => {
-                let head = Head {
-                    client: *client,
-                    line: line.number,
-                    verb: Verb::Commit,
-                };
-                self.commit(alloc, config, head, body)
-            }
-            What::PhaseEnd | What::Nothing => Ok(()),
-        }
-    }
-
-    // What the run gives.
+    // What the run gives: its rows in the order of the script, and its searchers.
     fn finish(self) -> Result<Output, NoMemory>
-        ensures { IfOk result (λ o. output_view o ≡ output_at (standing self)) }
+        ensures rows { IfOk result (λ o. IsPermutation (standing self).rows (output_view o).requests) }
+        ensures sorted { IfOk result (λ o. IsNonDecreasingBy (λ r. r.line) (output_view o).requests) }
+        ensures searchers { IfOk result (λ o. (output_view o).searchers ≡ searchers_of (standing self)) }
     {
         let Runner {
             index: _,
             place: _,
-            rows,
+            mut rows,
             mut earlier,
             current,
         } = self;
         earlier.push(current)?;
+        rows.sort_unstable_by_key(|row| row.line);
         Ok(Output {
             requests: RequestRows::new(rows),
             searchers: SearcherList::new(earlier),
@@ -93,12 +69,13 @@ impl Runner {
     }
 }
 
-/// Runs the script: each line in its turn.
+/// Runs the script: phase by phase, the clients of a phase one after another by number, each client's lines in turn.
 ///
-/// Each client's requests are answered in the order of its lines, and each searcher is warmed and registered in
-/// the commit that opens it. It costs, for each add, a look at its unique key; for each commit a step, and now and
-/// then a pass over the documents that as many replaced ones have paid for; and for each query a comparison a
-/// document that its searcher sees, and a step a replaced one.
+/// Each searcher is warmed and registered in the commit that opens it. Where memory is wanting for a request, it has
+/// the 500 reply, takes no place, and all else stands as before; `NoMemory` comes where not even that reply could be
+/// had. It costs, for each add, a look at its unique key; for each commit a step, and now and then a pass over the
+/// documents that as many replaced ones have paid for; for each query a comparison a document that its searcher sees,
+/// and a step a replaced one; and a sort of the rows by line.
 pub fn run_script<G: Gate>(
     alloc: Global,
     config: &Config,
@@ -107,12 +84,17 @@ pub fn run_script<G: Gate>(
 ) -> Result<Output, NoMemory>
     requires warming { 0 < config.now.max_warming }
     requires lines { length script.now ≤ 100000 }
+    requires numbers { Ascends (map (λ line. line.number) script.now) }
+    requires clients { All (λ line. HasClient 12 line.what) script.now }
+    ensures agrees { IfOk result (λ o. GoesByHistory config.now script.now (output_view o)) }
     ensures lawful { IfOk result (λ o. Lawful config.now script.now (output_view o)) }
 {
     let _ = gate;
+    let turns = turns(alloc, script.get())?;
     let mut runner = Runner::new(alloc);
-    for line in script.get() {
-        runner.step(alloc, config, line)?;
+    for turn in &turns {
+        let line = &script.get()[turn.index as usize];
+        runner.step(alloc, config, turn.phase, line)?;
     }
     runner.finish()
 }

@@ -12,7 +12,7 @@ use Rattle.search_model.specs.TermQuery.{asked_of}
 use Rattle.run_laws.specs.Rows.{add, query, commit, RequestRow}
 use Rattle.run_laws.specs.Places.{view_of, warming}
 use Rattle.run_laws.specs.Lawful.{Shows}
-use Rattle.run_laws.specs.Trials.{Law, one_row_each, one_history, clients_orders, answers, greatest_serves, tickets, warmings, Keeps, BreaksAlone, told_of, one_warming, two_warming, two_fields, asked_x, served, row, document_a, document_b, add_commit_query, add_has_no_place, adds_in_phases, adds_of_two, another_warming_told, bad_add, bad_add_is_accepted, client_did_not_wait, commit_then_add, commit_then_phase, first_ends_first, generation_is_skipped, one_add, one_commit, one_query, opened_by_nobody, opened_nothing, openings_descend, phase_did_not_wait, phases_are_swapped, place_is_shared, placed_without_memory, places_are_swapped, queries_and_commit, query_then_commit, commits_in_turn, served_from_after, ticket_past_acquired, warmed_from_before, refused_without_cause, registered_too_late, reply_of_another_view, reply_with_another_document, row_is_missing, served_backwards, served_from_before, served_from_none, superseded_by_none, ticket_is_skipped, tickets_descend, two_adds, two_commits, two_queries, warmed_from_itself, warmed_from_none, warms_too_many}
+use Rattle.run_laws.specs.Trials.{Law, one_row_each, one_history, clients_orders, answers, greatest_serves, tickets, ticket_order, warmings, Keeps, BreaksAlone, told_of, one_warming, two_warming, two_fields, asked_x, served, row, document_a, document_b, add_commit_query, add_has_no_place, adds_in_phases, adds_of_two, another_warming_told, bad_add, bad_add_is_accepted, client_did_not_wait, commit_then_add, commit_then_phase, first_ends_first, generation_is_skipped, one_add, one_commit, one_query, opened_by_nobody, opened_nothing, openings_descend, phase_did_not_wait, phases_are_swapped, place_is_shared, placed_without_memory, places_are_swapped, queries_and_commit, query_then_commit, commits_in_turn, served_from_after, ticket_past_acquired, warmed_from_before, refused_without_cause, registered_too_late, reply_of_another_view, reply_with_another_document, row_is_missing, served_backwards, served_from_before, served_from_none, superseded_by_none, ticket_is_skipped, tickets_descend, two_adds, two_commits, two_queries, warmed_from_itself, warmed_from_none, warms_too_many}
 use Rattle.run_laws.proofs.Worked.{shows, shows_two, tells, tells_added, tells_committed, tells_served, add_answered, found_rows, found_history, found_orders, found_answers, found_serves, found_warmings, finds_one, one_answer}
 
 row_is_missing_others : (other : Law) → other ≢ one_row_each → Keeps one_warming add_commit_query row_is_missing other
@@ -22,6 +22,7 @@ row_is_missing_others clients_orders differs = search rules
 row_is_missing_others answers differs = (add_answered 0 1 1 2, (inl (inl (3, 2, record { place = refl; generation = refl; ticket = refl; opened = refl; room = omega arith; shown = shows 1 2 commit (Some 3) (Some 2) None accepted })), tt))
 row_is_missing_others greatest_serves differs = search rules
 row_is_missing_others tickets differs = search rules
+row_is_missing_others ticket_order differs = search rules
 row_is_missing_others warmings differs = (refl, ((refl, (3, omega arith, omega arith, refl)), tt))
 
 row_is_missing_breaks : Keeps one_warming add_commit_query row_is_missing one_row_each → ⊥
@@ -37,6 +38,7 @@ generation_is_skipped_others clients_orders differs = search rules
 generation_is_skipped_others answers differs = search (rules, shows, add_answered)
 generation_is_skipped_others greatest_serves differs = search rules
 generation_is_skipped_others tickets differs = search rules
+generation_is_skipped_others ticket_order differs = search rules
 generation_is_skipped_others warmings differs = (refl, ((refl, (2, omega arith, omega arith, refl)), tt))
 
 generation_is_skipped_breaks : Keeps one_warming one_commit generation_is_skipped one_row_each → ⊥
@@ -52,6 +54,7 @@ place_is_shared_others clients_orders differs = search rules
 place_is_shared_others answers differs = search (rules, add_answered)
 place_is_shared_others greatest_serves differs = search rules
 place_is_shared_others tickets differs = search rules
+place_is_shared_others ticket_order differs = search rules
 place_is_shared_others warmings differs = search rules
 
 place_is_shared_breaks : Keeps one_warming adds_of_two place_is_shared one_history → ⊥
@@ -67,6 +70,7 @@ first_ends_first_others clients_orders differs = tt
 first_ends_first_others answers differs = tt
 first_ends_first_others greatest_serves differs = search rules
 first_ends_first_others tickets differs = search rules
+first_ends_first_others ticket_order differs = search rules
 first_ends_first_others warmings differs = search rules
 
 first_ends_first_breaks : Keeps one_warming [] first_ends_first one_history → ⊥
@@ -82,6 +86,7 @@ opened_by_nobody_others clients_orders differs = search rules
 opened_by_nobody_others answers differs = search (rules, add_answered)
 opened_by_nobody_others greatest_serves differs = search rules
 opened_by_nobody_others tickets differs = search rules
+opened_by_nobody_others ticket_order differs = search rules
 opened_by_nobody_others warmings differs = (refl, ((refl, (2, omega arith, omega arith, refl)), tt))
 
 opened_by_nobody_breaks : Keeps one_warming one_add opened_by_nobody one_history → ⊥
@@ -97,6 +102,7 @@ openings_descend_others clients_orders differs = search rules
 openings_descend_others answers differs = search (rules, shows_two, add_answered)
 openings_descend_others greatest_serves differs = search rules
 openings_descend_others tickets differs = search rules
+openings_descend_others ticket_order differs = search rules
 openings_descend_others warmings differs = (refl, ((refl, (3, omega arith, omega arith, refl)), ((refl, (2, omega arith, omega arith, refl)), tt)))
 
 openings_descend_breaks : Keeps two_warming two_commits openings_descend one_history → ⊥
@@ -112,6 +118,7 @@ places_are_swapped_others clients_orders differs = absurd (differs refl)
 places_are_swapped_others answers differs = search (rules, add_answered)
 places_are_swapped_others greatest_serves differs = search rules
 places_are_swapped_others tickets differs = search rules
+places_are_swapped_others ticket_order differs = search rules
 places_are_swapped_others warmings differs = search rules
 
 places_are_swapped_breaks : Keeps one_warming two_adds places_are_swapped clients_orders → ⊥
@@ -127,6 +134,7 @@ phases_are_swapped_others clients_orders differs = absurd (differs refl)
 phases_are_swapped_others answers differs = search (rules, add_answered)
 phases_are_swapped_others greatest_serves differs = search rules
 phases_are_swapped_others tickets differs = search rules
+phases_are_swapped_others ticket_order differs = search rules
 phases_are_swapped_others warmings differs = search rules
 
 phases_are_swapped_breaks : Keeps one_warming adds_in_phases phases_are_swapped clients_orders → ⊥
@@ -142,6 +150,7 @@ client_did_not_wait_others clients_orders differs = absurd (differs refl)
 client_did_not_wait_others answers differs = (inl (inl (2, 2, record { place = refl; generation = refl; ticket = refl; opened = refl; room = omega arith; shown = shows 1 1 commit (Some 2) (Some 2) None accepted })), (add_answered 0 1 2 3, tt))
 client_did_not_wait_others greatest_serves differs = search rules
 client_did_not_wait_others tickets differs = search rules
+client_did_not_wait_others ticket_order differs = search rules
 client_did_not_wait_others warmings differs = (refl, ((refl, (2, omega arith, omega arith, refl)), tt))
 
 client_did_not_wait_breaks : Keeps one_warming commit_then_add client_did_not_wait clients_orders → ⊥
@@ -157,6 +166,7 @@ phase_did_not_wait_others clients_orders differs = absurd (differs refl)
 phase_did_not_wait_others answers differs = (inl (inl (2, 2, record { place = refl; generation = refl; ticket = refl; opened = refl; room = omega arith; shown = shows 1 1 commit (Some 2) (Some 2) None accepted })), (add_answered 1 2 3 3, tt))
 phase_did_not_wait_others greatest_serves differs = search rules
 phase_did_not_wait_others tickets differs = search rules
+phase_did_not_wait_others ticket_order differs = search rules
 phase_did_not_wait_others warmings differs = (refl, ((refl, (2, omega arith, omega arith, refl)), tt))
 
 phase_did_not_wait_breaks : Keeps one_warming commit_then_phase phase_did_not_wait clients_orders → ⊥
@@ -172,6 +182,7 @@ add_has_no_place_others clients_orders differs = search rules
 add_has_no_place_others answers differs = absurd (differs refl)
 add_has_no_place_others greatest_serves differs = search rules
 add_has_no_place_others tickets differs = search rules
+add_has_no_place_others ticket_order differs = search rules
 add_has_no_place_others warmings differs = search rules
 
 add_has_no_place_breaks : Keeps one_warming two_adds add_has_no_place answers → ⊥
@@ -187,6 +198,7 @@ bad_add_is_accepted_others clients_orders differs = search rules
 bad_add_is_accepted_others answers differs = absurd (differs refl)
 bad_add_is_accepted_others greatest_serves differs = search rules
 bad_add_is_accepted_others tickets differs = search rules
+bad_add_is_accepted_others ticket_order differs = search rules
 bad_add_is_accepted_others warmings differs = search rules
 
 bad_add_is_accepted_breaks : Keeps one_warming bad_add bad_add_is_accepted answers → ⊥
@@ -203,6 +215,7 @@ placed_without_memory_others clients_orders differs = search rules
 placed_without_memory_others answers differs = absurd (differs refl)
 placed_without_memory_others greatest_serves differs = search rules
 placed_without_memory_others tickets differs = search rules
+placed_without_memory_others ticket_order differs = search rules
 placed_without_memory_others warmings differs = search rules
 
 placed_without_memory_breaks : Keeps one_warming one_add placed_without_memory answers → ⊥
@@ -218,6 +231,7 @@ superseded_by_none_others clients_orders differs = search rules
 superseded_by_none_others answers differs = search (rules, shows, add_answered)
 superseded_by_none_others greatest_serves differs = absurd (differs refl)
 superseded_by_none_others tickets differs = search rules
+superseded_by_none_others ticket_order differs = search rules
 superseded_by_none_others warmings differs = (refl, ((refl, (2, omega arith, omega arith, refl)), tt))
 
 superseded_by_none_breaks : Keeps one_warming one_commit superseded_by_none greatest_serves → ⊥
@@ -233,6 +247,7 @@ registered_too_late_others clients_orders differs = search rules
 registered_too_late_others answers differs = search (rules, shows_two, add_answered)
 registered_too_late_others greatest_serves differs = absurd (differs refl)
 registered_too_late_others tickets differs = search rules
+registered_too_late_others ticket_order differs = search rules
 registered_too_late_others warmings differs = (refl, ((refl, (2, omega arith, omega arith, refl)), ((refl, (3, omega arith, omega arith, refl)), tt)))
 
 registered_too_late_breaks : Keeps two_warming two_commits registered_too_late greatest_serves → ⊥
@@ -248,6 +263,7 @@ refused_without_cause_others clients_orders differs = search rules
 refused_without_cause_others answers differs = absurd (differs refl)
 refused_without_cause_others greatest_serves differs = search rules
 refused_without_cause_others tickets differs = search rules
+refused_without_cause_others ticket_order differs = search rules
 refused_without_cause_others warmings differs = search rules
 
 refused_without_cause_breaks : Keeps one_warming one_commit refused_without_cause answers → ⊥
@@ -263,6 +279,7 @@ opened_nothing_others clients_orders differs = search rules
 opened_nothing_others answers differs = absurd (differs refl)
 opened_nothing_others greatest_serves differs = search rules
 opened_nothing_others tickets differs = search rules
+opened_nothing_others ticket_order differs = search rules
 opened_nothing_others warmings differs = search rules
 
 opened_nothing_breaks : Keeps one_warming one_commit opened_nothing answers → ⊥
@@ -278,6 +295,7 @@ another_warming_told_others clients_orders differs = search rules
 another_warming_told_others answers differs = absurd (differs refl)
 another_warming_told_others greatest_serves differs = search rules
 another_warming_told_others tickets differs = search rules
+another_warming_told_others ticket_order differs = search rules
 another_warming_told_others warmings differs = (refl, ((refl, (2, omega arith, omega arith, refl)), tt))
 
 -- the two replies differ where the generation stands
@@ -309,6 +327,7 @@ warms_too_many_others clients_orders differs = search rules
 warms_too_many_others answers differs = absurd (differs refl)
 warms_too_many_others greatest_serves differs = search rules
 warms_too_many_others tickets differs = search rules
+warms_too_many_others ticket_order differs = search rules
 warms_too_many_others warmings differs = (refl, ((refl, (2, omega arith, omega arith, refl)), ((refl, (3, omega arith, omega arith, refl)), tt)))
 
 warms_too_many_breaks : Keeps one_warming two_commits warms_too_many answers → ⊥
@@ -324,6 +343,7 @@ served_from_none_others clients_orders differs = search rules
 served_from_none_others answers differs = absurd (differs refl)
 served_from_none_others greatest_serves differs = search rules
 served_from_none_others tickets differs = search rules
+served_from_none_others ticket_order differs = search rules
 served_from_none_others warmings differs = search rules
 
 served_from_none_breaks : Keeps one_warming one_query served_from_none answers → ⊥
@@ -339,6 +359,7 @@ reply_of_another_view_others clients_orders differs = search rules
 reply_of_another_view_others answers differs = absurd (differs refl)
 reply_of_another_view_others greatest_serves differs = search rules
 reply_of_another_view_others tickets differs = search rules
+reply_of_another_view_others ticket_order differs = search rules
 reply_of_another_view_others warmings differs = (refl, ((refl, (3, omega arith, omega arith, refl)), tt))
 
 -- the second searcher sees a document, and the reply shows none
@@ -366,6 +387,7 @@ reply_with_another_document_others clients_orders differs = search rules
 reply_with_another_document_others answers differs = absurd (differs refl)
 reply_with_another_document_others greatest_serves differs = search rules
 reply_with_another_document_others tickets differs = search rules
+reply_with_another_document_others ticket_order differs = search rules
 reply_with_another_document_others warmings differs = (refl, ((refl, (3, omega arith, omega arith, refl)), tt))
 
 -- the two replies differ where the unique key stands
@@ -402,6 +424,7 @@ served_from_before_others clients_orders differs = search rules
 served_from_before_others answers differs = absurd (differs refl)
 served_from_before_others greatest_serves differs = search rules
 served_from_before_others tickets differs = search rules
+served_from_before_others ticket_order differs = search rules
 served_from_before_others warmings differs = (refl, ((refl, (3, omega arith, omega arith, refl)), tt))
 
 served_from_before_breaks : Keeps one_warming add_commit_query served_from_before answers → ⊥
@@ -417,6 +440,7 @@ served_backwards_others clients_orders differs = search rules
 served_backwards_others answers differs = absurd (differs refl)
 served_backwards_others greatest_serves differs = search rules
 served_backwards_others tickets differs = search rules
+served_backwards_others ticket_order differs = search rules
 served_backwards_others warmings differs = (refl, ((refl, (2, omega arith, omega arith, refl)), tt))
 
 served_backwards_breaks : Keeps one_warming queries_and_commit served_backwards answers → ⊥
@@ -432,6 +456,7 @@ tickets_descend_others clients_orders differs = search rules
 tickets_descend_others answers differs = absurd (differs refl)
 tickets_descend_others greatest_serves differs = search rules
 tickets_descend_others tickets differs = search rules
+tickets_descend_others ticket_order differs = search rules
 tickets_descend_others warmings differs = search rules
 
 tickets_descend_breaks : Keeps one_warming two_queries tickets_descend answers → ⊥
@@ -447,6 +472,7 @@ ticket_is_skipped_others clients_orders differs = found_orders 1 1 (Some (1, 0))
 ticket_is_skipped_others answers differs = found_answers 1 1 (Some (1, 0)) 1
 ticket_is_skipped_others greatest_serves differs = found_serves 1 1 (Some (1, 0)) 1
 ticket_is_skipped_others tickets differs = absurd (differs refl)
+ticket_is_skipped_others ticket_order differs = search rules
 ticket_is_skipped_others warmings differs = found_warmings 1 1 0 1
 
 ticket_is_skipped_breaks : Keeps one_warming add_commit_query ticket_is_skipped tickets → ⊥
@@ -462,6 +488,7 @@ warmed_from_none_others clients_orders differs = found_orders 0 1 None 0
 warmed_from_none_others answers differs = found_answers 0 1 None 0
 warmed_from_none_others greatest_serves differs = found_serves 0 1 None 0
 warmed_from_none_others tickets differs = search rules
+warmed_from_none_others ticket_order differs = search rules
 warmed_from_none_others warmings differs = absurd (differs refl)
 
 warmed_from_none_breaks : Keeps one_warming add_commit_query warmed_from_none warmings → ⊥
@@ -477,6 +504,7 @@ warmed_from_itself_others clients_orders differs = found_orders 0 2 (Some (2, 0)
 warmed_from_itself_others answers differs = found_answers 0 2 (Some (2, 0)) 1
 warmed_from_itself_others greatest_serves differs = found_serves 0 2 (Some (2, 0)) 1
 warmed_from_itself_others tickets differs = search rules
+warmed_from_itself_others ticket_order differs = search rules
 warmed_from_itself_others warmings differs = absurd (differs refl)
 
 warmed_from_itself_breaks : Keeps one_warming add_commit_query warmed_from_itself warmings → ⊥
@@ -492,6 +520,7 @@ served_from_after_others clients_orders differs = search rules
 served_from_after_others answers differs = absurd (differs refl)
 served_from_after_others greatest_serves differs = search rules
 served_from_after_others tickets differs = search rules
+served_from_after_others ticket_order differs = search rules
 served_from_after_others warmings differs = (refl, ((refl, (2, omega arith, omega arith, refl)), tt))
 
 served_from_after_breaks : Keeps one_warming query_then_commit served_from_after answers → ⊥
@@ -508,6 +537,7 @@ ticket_past_acquired_others clients_orders differs = search rules
 ticket_past_acquired_others answers differs = (inl (1, 0, record { place = refl; generation = refl; ticket = refl; current = (1, omega arith, omega arith, refl); rising = tt; shown = inl (shows 1 1 query None (Some 1) (Some 0) (found asked_x (answer [] asked_x))) }), tt)
 ticket_past_acquired_others greatest_serves differs = search rules
 ticket_past_acquired_others tickets differs = absurd (differs refl)
+ticket_past_acquired_others ticket_order differs = search rules
 ticket_past_acquired_others warmings differs = search rules
 
 ticket_past_acquired_breaks : Keeps one_warming one_query ticket_past_acquired tickets → ⊥
@@ -523,6 +553,7 @@ warmed_from_before_others clients_orders differs = search rules
 warmed_from_before_others answers differs = search (rules, shows, add_answered)
 warmed_from_before_others greatest_serves differs = search rules
 warmed_from_before_others tickets differs = search rules
+warmed_from_before_others ticket_order differs = search rules
 warmed_from_before_others warmings differs = absurd (differs refl)
 
 warmed_from_before_breaks : Keeps one_warming commits_in_turn warmed_from_before warmings → ⊥

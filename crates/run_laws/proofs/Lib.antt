@@ -3,3 +3,4 @@ pub mod Alone
 pub mod Written
 pub mod FirstPlace
 pub mod Others
+pub mod TicketTrials

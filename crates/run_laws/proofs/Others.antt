@@ -7,7 +7,7 @@ use Rattle.search_model.specs.Reply.{accepted, too_many, no_memory}
 use Rattle.run_laws.specs.Rows.{add, query, commit}
 use Rattle.run_laws.specs.Lawful.{Lawful}
 use Rattle.run_laws.specs.OutputText.{output_text}
-use Rattle.run_laws.specs.Trials.{Law, one_row_each, one_history, clients_orders, answers, greatest_serves, tickets, warmings, Keeps, one_warming, two_warming, one_add, one_query, two_commits, nothing_asked, overtaken, overtaken_text, warming_told, add_without_memory, query_without_memory}
+use Rattle.run_laws.specs.Trials.{Law, one_row_each, one_history, clients_orders, answers, greatest_serves, tickets, ticket_order, warmings, Keeps, one_warming, two_warming, one_add, one_query, two_commits, nothing_asked, overtaken, overtaken_text, warming_told, add_without_memory, query_without_memory}
 use Rattle.run_laws.proofs.Worked.{shows, shows_two, tells, tells_committed, lawful_by}
 
 nothing_keeps : (law : Law) → Keeps one_warming [] nothing_asked law
@@ -17,6 +17,7 @@ nothing_keeps clients_orders = tt
 nothing_keeps answers = tt
 nothing_keeps greatest_serves = search rules
 nothing_keeps tickets = search rules
+nothing_keeps ticket_order = search rules
 nothing_keeps warmings = search rules
 
 pub nothing_is_lawful : Lawful one_warming [] nothing_asked
@@ -29,6 +30,7 @@ overtaken_keeps clients_orders = search rules
 overtaken_keeps answers = search (rules, shows_two)
 overtaken_keeps greatest_serves = search rules
 overtaken_keeps tickets = search rules
+overtaken_keeps ticket_order = search rules
 overtaken_keeps warmings = (refl, ((refl, (2, omega arith, omega arith, refl)), ((refl, (3, omega arith, omega arith, refl)), tt)))
 
 pub overtaken_is_lawful : Lawful two_warming two_commits overtaken
@@ -47,6 +49,7 @@ warming_told_keeps answers = (
 )
 warming_told_keeps greatest_serves = search rules
 warming_told_keeps tickets = search rules
+warming_told_keeps ticket_order = search rules
 warming_told_keeps warmings = (refl, ((refl, (2, omega arith, omega arith, refl)), tt))
 
 pub warming_told_is_lawful : Lawful one_warming two_commits warming_told
@@ -61,6 +64,7 @@ memory_keeps clients_orders = search rules
 memory_keeps answers = (inr (record { place = refl; generation = refl; ticket = refl }, shows 1 1 add None None None no_memory), tt)
 memory_keeps greatest_serves = search rules
 memory_keeps tickets = search rules
+memory_keeps ticket_order = search rules
 memory_keeps warmings = search rules
 
 pub memory_is_lawful : Lawful one_warming one_add add_without_memory
@@ -78,6 +82,7 @@ query_memory_keeps answers = (
 )
 query_memory_keeps greatest_serves = search rules
 query_memory_keeps tickets = search rules
+query_memory_keeps ticket_order = search rules
 query_memory_keeps warmings = search rules
 
 pub query_memory_is_lawful : Lawful one_warming one_query query_without_memory

@@ -15,7 +15,7 @@ use Rattle.run_laws.specs.Rows.{Verb, add, query, commit, Output}
 use Rattle.run_laws.specs.CallReadings.{update_of}
 use Rattle.run_laws.specs.Lawful.{Lawful, Shows, UpdateIsAnswered}
 use Rattle.run_laws.specs.OutputText.{output_text}
-use Rattle.run_laws.specs.Trials.{Law, one_row_each, one_history, clients_orders, answers, greatest_serves, tickets, warmings, Keeps, one_warming, two_warming, add_a, document_a, asked_x, add_commit_query, row, added_at, committed_at, served, found_once, worked, worked_text}
+use Rattle.run_laws.specs.Trials.{Law, one_row_each, one_history, clients_orders, answers, greatest_serves, tickets, ticket_order, warmings, Keeps, one_warming, two_warming, add_a, document_a, asked_x, add_commit_query, row, added_at, committed_at, served, found_once, worked, worked_text}
 
 -- the numbers of a trial's row are those of its outcome
 pub shows : (client number : ℕ) (verb : Verb) (place generation ticket : Option ℕ) (o : Outcome) → Shows one_warming (row client number verb place generation ticket o) o
@@ -110,6 +110,7 @@ lawful_by c script o keeps = record {
   answered = keeps answers;
   greatest_serves = keeps greatest_serves;
   tickets = keeps tickets;
+  ticket_order = keeps ticket_order;
   warmings = keeps warmings;
 }
 
@@ -120,6 +121,7 @@ worked_keeps clients_orders = found_orders 1 1 (Some (1, 0)) 0
 worked_keeps answers = found_answers 1 1 (Some (1, 0)) 0
 worked_keeps greatest_serves = found_serves 1 1 (Some (1, 0)) 0
 worked_keeps tickets = search rules
+worked_keeps ticket_order = search rules
 worked_keeps warmings = found_warmings 1 1 0 0
 
 pub worked_is_lawful : Lawful one_warming add_commit_query worked

@@ -1,7 +1,6 @@
 -- When the rows of an output are lawful for a configuration and a script.
 use Rattle.std.specs.Prelude.{◌≡◌, ◌⊎◌, ℕ, ◌-◌, ◌<◌, ◌≤◌, List, [], ◌∷◌, ◌++◌, length, map, drop, count_by, Bool, true, false, ◌&&◌, ◌==◌, nat_le, if◌then◌else◌, Option, Some, None, IsSome, IfSome, Result, Ok, Err}
 use Rattle.std.specs.List.{filter_map, AllByRecursion, range_with_len}
-use Rattle.std.specs.Option.{option_and_then, option_map}
 use Rattle.search_model.specs.Answer.{Asked, answer}
 use Rattle.search_model.specs.Reply.{Outcome, found, accepted, refused, too_many, no_memory, reply_text, code_of, found_of, docs_of}
 use Rattle.script_form.specs.declared.config.Config.{Config}
@@ -10,7 +9,9 @@ use Rattle.run_laws.specs.Rows.{Verb, add, delete, query, commit, RequestRow, Se
 use Rattle.run_laws.specs.Calls.{Call, Told, calls_of, tell, Each}
 use Rattle.run_laws.specs.CallReadings.{update_of, commit_of, query_of, CommitForm}
 use Rattle.run_laws.specs.Places.{is_some_of, places, place_count, opened_of, current_at, warming, view_of}
-use Rattle.run_laws.specs.Bounds.{is_commit, is_query, low, high}
+use Rattle.run_laws.specs.Bounds.{is_commit, low, high}
+pub use Rattle.run_laws.specs.Acquires.{pin_of, pins, IsBehind}
+use Rattle.run_laws.specs.Acquires.{KeepsTicketOrder}
 
 -- the row shows this outcome: its reply, and the numbers in it
 pub record Shows (c : Config) (row : RequestRow) (o : Outcome) : Type 0 where
@@ -133,18 +134,6 @@ CommitIsAnswered c o r (Err message) = IsRefused c r message
 
 -- ---- 7: queries
 
--- the generation and ticket of a query's row
-abbrev pub pin_of : Told → Option (ℕ × ℕ)
-pin_of t = if is_query t.call.verb then option_and_then (λ g. option_map (λ k. (g, k)) t.row.ticket) t.row.generation else None
-
--- those of the client's rows
-abbrev pub pins : ℕ → List Told → List (ℕ × ℕ)
-pins client told = filter_map (λ t. if t.call.client == client then pin_of t else None) told
-
--- generations never go back, and tickets of one generation rise
-abbrev pub IsBehind : ℕ → ℕ → ℕ × ℕ → Type 0
-IsBehind g k pin = (pin.0 ≤ g) × (pin.0 ≡ g → pin.1 < k)
-
 -- the generation was current at some place between the client's neighbouring calls
 abbrev pub WasCurrent : Output → List Told → Told → List Told → ℕ → Type 0
 WasCurrent o before t behind g =
@@ -156,7 +145,7 @@ pub record IsServed (c : Config) (told : List Told) (o : Output) (before : List 
   pub generation : t.row.generation ≡ Some g
   pub ticket : t.row.ticket ≡ Some k
   pub current : WasCurrent o before t behind g
-  pub rising : AllByRecursion (IsBehind g k) (pins t.call.client before)
+  pub rising : AllByRecursion (IsBehind g k) (pins t before)
   pub shown : Shows c t.row (found asked (answer (view_of c told o g) asked)) ⊎ Shows c t.row no_memory
 
 -- A query that reads is served from one registered searcher, or there was no memory; one that does not is refused.
@@ -217,4 +206,5 @@ pub record Lawful (c : Config) (script : List Line) (o : Output) : Type 0 where
   pub answered : Each (IsAnswered c (tell (calls_of script) o.requests) o) [] (tell (calls_of script) o.requests)
   pub greatest_serves : AllByRecursion (ServesUnlessOlder o) o.searchers
   pub tickets : AllByRecursion (CountsTickets (tell (calls_of script) o.requests) o) o.searchers
+  pub ticket_order : KeepsTicketOrder o (tell (calls_of script) o.requests)
   pub warmings : TellsWarmings c o o.searchers

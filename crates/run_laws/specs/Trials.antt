@@ -15,6 +15,7 @@ use Rattle.script_form.specs.declared.script.What.{What}
 use Rattle.script_form.specs.declared.script.What.TheVariants as what
 use Rattle.run_laws.specs.Rows.{Verb, add, query, commit, RequestRow, SearcherRow, Output}
 use Rattle.run_laws.specs.Calls.{Told, calls_of, tell, Each}
+use Rattle.run_laws.specs.Acquires.{KeepsTicketOrder}
 use Rattle.run_laws.specs.Lawful.{AnswersEach, IsOneHistory, KeepsOrder, IsAnswered, ServesUnlessOlder, CountsTickets, TellsWarmings}
 
 -- ---- the laws one by one
@@ -26,6 +27,7 @@ pub data Law : Type 0 where
   answers : Law
   greatest_serves : Law
   tickets : Law
+  ticket_order : Law
   warmings : Law
 
 -- the requests of a script with the rows of an output
@@ -40,6 +42,7 @@ Keeps c script o clients_orders = Each (KeepsOrder o) [] (told_of script o)
 Keeps c script o answers = Each (IsAnswered c (told_of script o) o) [] (told_of script o)
 Keeps c script o greatest_serves = AllByRecursion (ServesUnlessOlder o) o.searchers
 Keeps c script o tickets = AllByRecursion (CountsTickets (told_of script o) o) o.searchers
+Keeps c script o ticket_order = KeepsTicketOrder o (told_of script o)
 Keeps c script o warmings = TellsWarmings c o o.searchers
 
 -- it breaks this law and keeps every other
@@ -424,4 +427,36 @@ abbrev pub warmed_from_before : Output
 warmed_from_before = record {
   requests = committed_at 1 1 2 2 ∷ committed_at 1 2 4 3 ∷ [];
   searchers = first 2 ∷ searcher 2 2 3 true 0 (Some (1, 0)) ∷ searcher 3 4 5 true 0 (Some (1, 1)) ∷ [];
+}
+
+-- ---- tickets that come from no history
+
+-- two clients query once each, in two phases
+abbrev pub queries_in_phases : List Line
+queries_in_phases = line 1 (what.Query 1 find_x) ∷ line 2 what.PhaseEnd ∷ line 3 (what.Query 2 find_x) ∷ []
+
+-- one client adds and queries, another queries and adds
+abbrev pub crossing : List Line
+crossing = line 1 (what.Add 1 add_a) ∷ line 2 (what.Query 1 find_x) ∷ line 3 (what.Query 2 find_x) ∷ line 4 (what.Add 2 add_a) ∷ []
+
+-- a client's query of the first searcher, which sees nothing
+abbrev pub served_first : ℕ → ℕ → ℕ → RequestRow
+served_first client number ticket = row client number query None (Some 1) (Some ticket) (found asked_x (answer [] asked_x))
+
+-- the later phase's query has the lower ticket
+abbrev pub phases_tickets_descend : Output
+phases_tickets_descend = record { requests = served_first 1 1 1 ∷ served_first 2 3 0 ∷ []; searchers = first 2 ∷ [] }
+
+-- client 1 queries behind its add at place 3, and client 2 before its add at place 2, but with the greater ticket
+abbrev pub tickets_cross : Output
+tickets_cross = record {
+  requests = added_at 1 1 3 ∷ served_first 1 2 0 ∷ served_first 2 3 1 ∷ added_at 2 4 2 ∷ [];
+  searchers = first 2 ∷ [];
+}
+
+-- a query before an opening has the greater ticket than the warming behind it
+abbrev pub warming_ticket_crosses : Output
+warming_ticket_crosses = record {
+  requests = served_first 1 1 1 ∷ committed_at 1 2 2 2 ∷ [];
+  searchers = first 2 ∷ searcher 2 2 3 true 0 (Some (1, 0)) ∷ [];
 }

@@ -3,7 +3,7 @@
 ghost use Rattle.std.specs.Prelude.{◌≡◌, ◌∷◌, [], map};
 ghost use Rattle.run_laws.specs.Lawful.{Lawful};
 ghost use Rattle.run_laws.specs.OutputText.{output_text};
-ghost use Rattle.run_laws.specs.Trials.{BreaksAlone, one_row_each, one_history, clients_orders, answers, greatest_serves, tickets, warmings, one_warming, two_warming, add_commit_query, two_adds, adds_of_two, adds_in_phases, bad_add, one_commit, two_commits, one_query, two_queries, queries_and_commit, query_then_commit, commits_in_turn, one_add, commit_then_add, commit_then_phase, worked, worked_text};
+ghost use Rattle.run_laws.specs.Trials.{BreaksAlone, one_row_each, one_history, clients_orders, answers, greatest_serves, tickets, ticket_order, warmings, one_warming, two_warming, add_commit_query, two_adds, adds_of_two, adds_in_phases, bad_add, one_commit, two_commits, one_query, two_queries, queries_and_commit, query_then_commit, commits_in_turn, one_add, commit_then_add, commit_then_phase, worked, worked_text};
 ghost use Rattle.run_laws.specs.Trials as trial;
 
 /// A document is added, committed and found: the output is lawful, the query's row alone tells a
@@ -193,6 +193,24 @@ pub fn skipped_ticket_is_unlawful()
 pub fn ticket_past_acquired_is_unlawful()
     ensures unlawful { Lawful one_warming one_query trial.ticket_past_acquired → ⊥ }
     ensures alone { BreaksAlone one_warming one_query trial.ticket_past_acquired tickets }
+{}
+
+/// The tickets of one generation rise from phase to phase.
+pub fn descending_tickets_of_phases_are_unlawful()
+    ensures unlawful { Lawful one_warming trial.queries_in_phases trial.phases_tickets_descend → ⊥ }
+    ensures alone { BreaksAlone one_warming trial.queries_in_phases trial.phases_tickets_descend answers }
+{}
+
+/// A query has no lower ticket than one that was served before it, as the places around the two show.
+pub fn crossing_tickets_are_unlawful()
+    ensures unlawful { Lawful one_warming trial.crossing trial.tickets_cross → ⊥ }
+    ensures alone { BreaksAlone one_warming trial.crossing trial.tickets_cross ticket_order }
+{}
+
+/// Nor has a warming, between the opening and the end of its searcher.
+pub fn crossing_ticket_of_warming_is_unlawful()
+    ensures unlawful { Lawful one_warming query_then_commit trial.warming_ticket_crosses → ⊥ }
+    ensures alone { BreaksAlone one_warming query_then_commit trial.warming_ticket_crosses ticket_order }
 {}
 
 /// A searcher above the first is warmed from one.

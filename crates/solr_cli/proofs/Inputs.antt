@@ -1,7 +1,9 @@
 -- What follows for an input that reads.
-use Rattle.std.proofs.Common.{◌≡◌, refl, sym, ◌∙◌, ap, ℕ, suc, ◌+◌, ◌<◌, ◌≤◌, List, [], ◌∷◌, length, Bool, true, false, ◌||◌, cond, nat_lt, Option, Some, None, Result, Ok, Err, arith, subst}
+use Rattle.std.proofs.Common.{◌≡◌, refl, sym, ◌∙◌, ap, ℕ, zero, suc, map, ◌+◌, ◌<◌, ◌≤◌, List, [], ◌∷◌, length, Bool, true, false, ◌||◌, cond, nat_lt, Option, Some, None, Result, Ok, Err, arith, subst}
 use Rattle.std.proofs.lemmas.Bool.Decides.{nat_tests}
 use Rattle.std.specs.Option.{option_map_or}
+use Rattle.std.specs.List.{AllByRecursion, range_with_len}
+use Rattle.run_laws.specs.Lawful.{Ascends}
 use Rattle.field_schema.specs.Schema.{Fields}
 use Rattle.script_form.specs.declared.config.Config.{Config}
 use Rattle.script_form.specs.declared.script.Line.{Line}
@@ -14,7 +16,9 @@ use Rattle.script_form.specs.declared.script.LineName.{LineName}
 use Rattle.script_form.specs.declared.script.ScriptRefusal.TheVariants as refusal
 use Rattle.script_form.specs.ReadConfig.{config_of}
 use Rattle.script_form.specs.ReadScript.{what_of, in_front, front_from, front_of, whole_script, script_of, line_failed, most_clients}
+use Rattle.script_form.specs.Ranges.{IsScript}
 use Rattle.script_form.proofs.Ranges.{config_is}
+use Rattle.script_form.proofs.ScriptRanges.{script_is}
 use Rattle.solr_cli.specs.BuiltForms.{built_script, first_unbuilt}
 
 first_false : (a b : Bool) → (a || b) ≡ false → a ≡ false
@@ -56,22 +60,6 @@ some_warming input c h = (config_is input c h).max_warming.0
 
 -- ---- the script
 
-no_more_from : (clients number : ℕ) (ls : List (List ℕ)) → length (front_from clients number ls).lines ≤ length ls
-no_more_from clients number [] = omega arith
-no_more_from clients number (line ∷ others) = by_what (what_of clients line) (no_more_from clients (number + 1) others)
-  where
-    by_what : (w : Result What LineName) → length (front_from clients (number + 1) others).lines ≤ length others
-        → length (in_front number w (front_from clients (number + 1) others)).lines ≤ suc (length others)
-    by_what (Ok asked) later = omega arith
-    by_what (Err fault) later = omega arith
-
-whole_lines : (front : Front) (script : List Line) → whole_script front ≡ Ok script → front.lines ≡ script
-whole_lines front script h = by_fault front.fault h
-  where
-    by_fault : (fault : Option LineFault) → option_map_or (λ f. Err (refusal.Fault f)) fault (Ok front.lines) ≡ Ok script → front.lines ≡ script
-    by_fault None e = cc
-    by_fault (Some f) e = absurd (cc)
-
 -- what is built is what the script reads to
 pub built_is_read : (s : Fields) (ls : List (List ℕ)) (script : List Line) → built_script s ls ≡ Ok script → script_of most_clients ls ≡ Ok script
 built_is_read s ls script h = by_line (first_unbuilt s (front_of most_clients ls).lines) h
@@ -80,9 +68,18 @@ built_is_read s ls script h = by_line (first_unbuilt s (front_of most_clients ls
     by_line None e = e
     by_line (Some k) e = absurd (cc)
 
--- a script has no more lines than its text
-pub no_more : (s : Fields) (ls : List (List ℕ)) (script : List Line) → built_script s ls ≡ Ok script → length script ≤ length ls
-unfolding front_of
-no_more s ls script h =
-    let lines : (front_of most_clients ls).lines ≡ script = whole_lines (front_of most_clients ls) script (built_is_read s ls script h) in
-    subst (λ (x : List Line). length x ≤ length ls) lines (no_more_from most_clients 1 ls)
+-- its lines are numbered from 1, their clients are those that there are, and there are no more of them than of the text
+pub built_is_script : (s : Fields) (ls : List (List ℕ)) (script : List Line) → built_script s ls ≡ Ok script → IsScript most_clients script × (length script ≡ length ls)
+built_is_script s ls script h = script_is most_clients ls script (built_is_read s ls script h)
+
+above : (m k n : ℕ) → k < n → AllByRecursion (λ q. k < q) (range_with_len n m)
+above zero k n h = tt
+above (suc m) k n h = (h, above m k (suc n) (omega (arith, h)))
+
+range_ascends : (m n : ℕ) → Ascends (range_with_len n m)
+range_ascends zero n = tt
+range_ascends (suc m) n = (above m n (suc n) (omega arith), range_ascends m (suc n))
+
+-- so they ascend
+pub numbers_ascend : (script : List Line) → IsScript most_clients script → Ascends (map (λ line. line.number) script)
+numbers_ascend script is = subst Ascends (sym is.numbers) (range_ascends (length script) 1)

@@ -90,7 +90,7 @@ fn check(
 }
 
 // Configurations with scripts, and what they write.
-const RUNS: [(&str, &str, &str); 5] = [
+const RUNS: [(&str, &str, &str); 6] = [
     (TWO_FIELDS, FOUND, FOUND_LINES),
     (
         FOUR_TYPES,
@@ -127,6 +127,23 @@ const RUNS: [(&str, &str, &str); 5] = [
 {\"client\":1,\"line\":5,\"reply\":{\"error\":{\"code\":400,\"msg\":\"ManyValues id\"},\"responseHeader\":{\"status\":400}}}
 {\"client\":1,\"line\":6,\"place\":2,\"reply\":{\"responseHeader\":{\"status\":0}}}
 {\"acquired\":0,\"finished\":1,\"generation\":1,\"opened\":0}
+",
+    ),
+    (
+        TWO_FIELDS,
+        "2 add {\"id\":\"b\",\"cat\":\"x\"}\n1 add {\"id\":\"a\",\"cat\":\"x\"}\n1 commit\n2 query q=cat:x\n---\n1 query q=cat:x\n2 add {\"id\":\"c\",\"cat\":\"x\"}\n2 commit\n1 query q=id:a\n2 query q=cat:x\n",
+        "{\"client\":2,\"line\":1,\"place\":5,\"reply\":{\"responseHeader\":{\"status\":0}}}
+{\"client\":1,\"line\":2,\"place\":2,\"reply\":{\"responseHeader\":{\"status\":0}}}
+{\"client\":1,\"generation\":2,\"line\":3,\"place\":3,\"reply\":{\"responseHeader\":{\"status\":0}}}
+{\"client\":2,\"generation\":2,\"line\":4,\"reply\":{\"response\":{\"docs\":[{\"cat\":\"x\",\"id\":\"a\"}],\"numFound\":1,\"numFoundExact\":true,\"start\":0},\"responseHeader\":{\"status\":0}},\"ticket\":0}
+{\"client\":1,\"generation\":2,\"line\":6,\"reply\":{\"response\":{\"docs\":[{\"cat\":\"x\",\"id\":\"a\"}],\"numFound\":1,\"numFoundExact\":true,\"start\":0},\"responseHeader\":{\"status\":0}},\"ticket\":1}
+{\"client\":2,\"line\":7,\"place\":6,\"reply\":{\"responseHeader\":{\"status\":0}}}
+{\"client\":2,\"generation\":3,\"line\":8,\"place\":7,\"reply\":{\"responseHeader\":{\"status\":0}}}
+{\"client\":1,\"generation\":2,\"line\":9,\"reply\":{\"response\":{\"docs\":[{\"cat\":\"x\",\"id\":\"a\"}],\"numFound\":1,\"numFoundExact\":true,\"start\":0},\"responseHeader\":{\"status\":0}},\"ticket\":2}
+{\"client\":2,\"generation\":3,\"line\":10,\"reply\":{\"response\":{\"docs\":[{\"cat\":\"x\",\"id\":\"a\"},{\"cat\":\"x\",\"id\":\"b\"},{\"cat\":\"x\",\"id\":\"c\"}],\"numFound\":3,\"numFoundExact\":true,\"start\":0},\"responseHeader\":{\"status\":0}},\"ticket\":0}
+{\"acquired\":1,\"finished\":1,\"generation\":1,\"opened\":0}
+{\"acquired\":4,\"finished\":4,\"from\":1,\"fromTicket\":0,\"generation\":2,\"opened\":3}
+{\"acquired\":1,\"finished\":8,\"from\":2,\"fromTicket\":3,\"generation\":3,\"opened\":7}
 ",
     ),
 ];

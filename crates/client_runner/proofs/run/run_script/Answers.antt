@@ -1,47 +1,99 @@
-use Rattle.std.proofs.Common.{◌≡◌, ◌+◌, ◌-◌, length, take, fold, arith, suc, sym, ◌∙◌, ap, subst}
-use Rattle.std.proofs.lemmas.List.{take_all}
-use Rattle.std.proofs.lemmas.List.Sums.{fold_more}
+use Rattle.std.proofs.Common.{◌≡◌, ◌<◌, ◌≤◌, IfOk, length, map, take, get_or, ℕ, ◌+◌, ◌-◌, ◌*◌, List, [], ◌∷◌, ◌++◌, Option, Some, Result, Ok, Err, ap, sym, subst, ◌∙◌, arith}
+use Rattle.std.specs.List.Sorted.{IsNonDecreasingBy, IsPermutation}
+use Rattle.std.proofs.lemmas.List.{map-append, take_all, take_more}
 use Rattle.std.proofs.lemmas.Result.{IfOk-weaker}
+use Rattle.script_form.specs.declared.script.Line.{Line}
+use Rattle.run_laws.specs.Rows as plain
+use Rattle.run_laws.specs.Calls.{Call, call_as}
 use Rattle.run_laws.specs.Lawful.{Lawful}
-use Rattle.run_laws.specs.Calls.{call_as}
+use Rattle.client_runner.specs.declared.order.Turn.{Turn}
+use Rattle.client_runner.specs.Histories.{GoesByHistory}
 use Rattle.client_runner.specs.Outputs.{output_view}
-use Rattle.client_runner.specs.Serial.{step, start, output_at, serial_output}
-use Rattle.client_runner.specs.Standings.{HasRoom, standing}
-use Rattle.client_runner.proofs.Rooms.{serve_room}
-use Rattle.client_runner.proofs.SerialLawful.{serial_is_lawful}
+use Rattle.client_runner.specs.RunOrder.{call_at}
+use Rattle.client_runner.specs.Runs.{FollowsIf, Follows}
+use Rattle.client_runner.specs.Standings.{Standing, HasRoom, searchers_of, standing}
+use Rattle.client_runner.proofs.InTurn.{AreServed, are_served, asks_for, index_within, comes_last}
+use Rattle.client_runner.proofs.Ended.{Served, none_served, one_more_served, ended, lawful_by}
 use Rattle.client_runner.proofs.run.run_script.Goals as goal
 
-pub loop-line-init : goal.loop-line-init
-loop-line-init g c = record {
-  ran = c.new-runner.ensures;
-  room = rw c.new-runner.ensures (record { place = omega arith; generation = omega arith; acquired = omega arith; served = omega arith; docs = omega arith });
+abbrev no_turn : Turn
+no_turn = record { key = 0; phase = 0; index = 0 }
+
+less_room : (m n : ℕ) (st : Standing) → n ≤ m → HasRoom m st → HasRoom n st
+less_room m n st le room = record {
+  place = omega (arith, le, room.place);
+  generation = omega (arith, le, room.generation);
+  acquired = omega (arith, le, room.acquired);
+  served = omega (arith, le, room.served);
+  docs = omega (arith, le, room.docs);
 }
 
-pub loop-line-preserved : goal.loop-line-preserved
-loop-line-preserved g c =
-    let lines = c.get-line-items.result.now in
-    let i = c.loop-line.line-index in
-    let line = c.line-item.result in
-    let here = c.in_ok-step.ensures in
-    let one_more : 100000 - i ≡ suc (100000 - (i + 1)) = omega (arith, c.loop-line-test.true, c.requires.lines, ap length c.get-line-items.ensures) in
-    let room : HasRoom (suc (100000 - (i + 1))) (standing c.loop-line.runner) = subst (λ n. HasRoom n (standing c.loop-line.runner)) one_more c.loop-line.invariant.room in
-    let turn = step c.args.config.now in
+all_ok : {X Y : Type 0} (r : Result X Y) (P Q R S : X → Type 0) → ((x : X) → P x → Q x → R x → S x) → IfOk r P → IfOk r Q → IfOk r R → IfOk r S
+all_ok (Ok x) P Q R S f p q r = f x p q r
+all_ok (Err y) P Q R S f p q r = tt
+
+pub loop-turn-init : goal.loop-turn-init
+loop-turn-init g c = record {
+  served = subst (Served c.args.config.now []) (sym c.new-runner.ensures) (none_served c.args.config.now c.requires.warming);
+  room = subst (HasRoom 100000) (sym c.new-runner.ensures) (record { place = omega arith; generation = omega arith; acquired = omega arith; served = omega arith; docs = omega arith });
+}
+
+pub bounds-get-turn : goal.bounds-get-turn
+bounds-get-turn g c =
+    let known : AreServed c.args.script.now c.deref-turn-items.result.now = are_served c.args.script.now c.get.result.now c.in_ok-turns.turns.items c.deref-turn-items.result.now
+        c.get.ensures c.deref-turn-items.ensures.value c.requires.lines c.requires.clients c.in_ok-turns.ensures.same c.in_ok-turns.ensures.rising in
+    subst (λ (lines : List Line). (get_or c.deref-turn-items.result.now c.loop-turn.turn-index no_turn).index < length lines) (sym c.get-in-loop-turn.ensures)
+    (index_within c.args.script.now (get_or c.deref-turn-items.result.now c.loop-turn.turn-index no_turn) (known.turns c.loop-turn.turn-index no_turn c.loop-turn-test.true))
+
+pub step-requires-clause-room : goal.step-requires-clause-room
+step-requires-clause-room g c =
+    let known : AreServed c.args.script.now c.deref-turn-items.result.now = are_served c.args.script.now c.get.result.now c.in_ok-turns.turns.items c.deref-turn-items.result.now
+        c.get.ensures c.deref-turn-items.ensures.value c.requires.lines c.requires.clients c.in_ok-turns.ensures.same c.in_ok-turns.ensures.rising in
+    let few : length c.deref-turn-items.result.now ≤ 100000 = known.few in
+    let in_range : c.loop-turn.turn-index < length c.deref-turn-items.result.now = c.loop-turn-test.true in
+    less_room (100000 - c.loop-turn.turn-index) 1 (standing c.loop-turn.runner) (omega (arith, few, in_range)) c.loop-turn.invariant.room
+
+pub loop-turn-preserved : goal.loop-turn-preserved
+loop-turn-preserved g c =
+    let config = c.args.config.now in
+    let script = c.args.script.now in
+    let items = c.deref-turn-items.result.now in
+    let i = c.loop-turn.turn-index in
+    let line = c.index-get-turn.result in
+    let old = standing c.loop-turn.runner in
+    let new = standing c.step.new.self in
+    let known : AreServed c.args.script.now c.deref-turn-items.result.now = are_served c.args.script.now c.get.result.now c.in_ok-turns.turns.items c.deref-turn-items.result.now
+        c.get.ensures c.deref-turn-items.ensures.value c.requires.lines c.requires.clients c.in_ok-turns.ensures.same c.in_ok-turns.ensures.rising in
+    let few : length items ≤ 100000 = known.few in
+    let in_range : i < length items = c.loop-turn-test.true in
+    let turn = get_or items i no_turn in
+    let read : line ≡ get_or script turn.index line = subst (λ (lines : List Line). line ≡ get_or lines turn.index line) c.get-in-loop-turn.ensures c.index-get-turn.is in
+    let asked : call_as turn.phase line.number line.what ≡ Some (call_at script turn) = asks_for script turn line line (known.turns i no_turn in_range) read in
+    let follows : Follows config (call_at script turn) old new = subst (λ (o : Option Call). FollowsIf config o old new) asked c.in_ok-step.ensures.follows in
+    let more : Served config (map (call_at script) (take i items) ++ call_at script turn ∷ []) new = one_more_served config (map (call_at script) (take i items)) (call_at script turn) old new c.loop-turn.invariant.served follows
+        (comes_last script items i no_turn c.requires.lines c.requires.numbers known.turns known.rising in_range) in
+    let one_less : 100000 - i ≡ (100000 - (i + 1)) + 1 = omega (arith, few, in_range) in
     record {
-      ran =
-          here ∙ ap (λ st. turn st line) c.loop-line.invariant.ran
-          ∙ ap (turn (fold turn start (take i lines))) c.line-item.is
-          ∙ sym (fold_more turn start lines i line c.loop-line-test.true);
-      room = rw here (serve_room c.args.config.now (standing c.loop-line.runner) (call_as 0 line.number line.what) (100000 - (i + 1)) room);
+      served = subst (λ qs. Served config qs new) (sym (ap (map (call_at script)) (take_more items i no_turn in_range) ∙ map-append (call_at script) (take i items) (turn ∷ []))) more;
+      room = c.in_ok-step.ensures.room (100000 - (i + 1)) (subst (λ n. HasRoom n old) one_less c.loop-turn.invariant.room);
     }
 
-pub returns : goal.returns
-unfolding serial_output
-returns g c = record {
-  lawful =
-      let lines = c.get-line-items.result.now in
-      let all : standing c.loop-line.runner ≡ fold (step c.args.config.now) start c.args.script.now =
-      c.loop-line.invariant.ran ∙ ap (fold (step c.args.config.now) start) (take_all c.loop-line.line-index lines c.loop-line-test.false ∙ c.get-line-items.ensures) in
-      IfOk-weaker c.finish.result _ (λ o. Lawful c.args.config.now c.args.script.now (output_view o))
-      (λ o h. subst (λ v. Lawful c.args.config.now c.args.script.now v) (sym (h ∙ ap output_at all)) (serial_is_lawful c.args.config.now c.args.script.now c.requires.warming))
-      c.finish.ensures;
-}
+pub returns-clause-agrees : goal.returns-clause-agrees
+returns-clause-agrees g c =
+    let config = c.args.config.now in
+    let script = c.args.script.now in
+    let items = c.deref-turn-items.result.now in
+    let st = standing c.loop-turn.runner in
+    let known : AreServed c.args.script.now c.deref-turn-items.result.now = are_served c.args.script.now c.get.result.now c.in_ok-turns.turns.items c.deref-turn-items.result.now
+        c.get.ensures c.deref-turn-items.ensures.value c.requires.lines c.requires.clients c.in_ok-turns.ensures.same c.in_ok-turns.ensures.rising in
+    let all : Served config (map (call_at script) items) st = subst (λ (ts : List Turn). Served config (map (call_at script) ts) st) (take_all c.loop-turn.turn-index items c.loop-turn-test.false) c.loop-turn.invariant.served in
+    all_ok c.finish.result (λ o. IsPermutation st.rows (output_view o).requests) (λ o. IsNonDecreasingBy (λ (r : plain.RequestRow). r.line) (output_view o).requests) (λ o. (output_view o).searchers ≡ searchers_of st)
+        (λ o. GoesByHistory config script (output_view o))
+    (λ o moved sorted searchers. ended config script (map (call_at script) items) st (output_view o) all c.requires.numbers known.calls moved sorted searchers)
+    c.finish.ensures.rows c.finish.ensures.sorted c.finish.ensures.searchers
+
+pub returns-clause-lawful : goal.returns-clause-lawful
+returns-clause-lawful g c =
+    IfOk-weaker c.finish.result (λ o. GoesByHistory c.args.config.now c.args.script.now (output_view o)) (λ o. Lawful c.args.config.now c.args.script.now (output_view o))
+    (λ o goes. lawful_by c.args.config.now c.args.script.now (output_view o) c.requires.numbers goes)
+    (returns-clause-agrees g c)

@@ -1,11 +1,12 @@
-use Rattle.std.proofs.Common.{◌≡◌, ◌-◌, take, fold}
-use Rattle.client_runner.specs.Serial.{step, start}
+use Rattle.std.proofs.Common.{◌≡◌, ◌-◌, map, take}
+use Rattle.client_runner.specs.RunOrder.{call_at}
 use Rattle.client_runner.specs.Standings.{HasRoom, standing}
+use Rattle.client_runner.proofs.Ended.{Served}
 use Rattle.client_runner.proofs.run.run_script.Given as goal
 
--- the run so far is that of the lines so far, and there is room for the rest
-abbrev pub invariant-loop-line : goal.invariant-loop-line
-invariant-loop-line g l = record {
-  ran : standing l.runner ≡ fold (step l.config) start (take l.line-index l.line-items);
-  room : HasRoom (100000 - l.line-index) (standing l.runner);
+-- the turns so far were served, and there is room for the rest
+abbrev pub invariant-loop-turn : goal.invariant-loop-turn
+invariant-loop-turn g l = record {
+  served : Served l.config (map (call_at l.script) (take l.turn-index l.turn-items)) (standing l.runner);
+  room : HasRoom (100000 - l.turn-index) (standing l.runner);
 }

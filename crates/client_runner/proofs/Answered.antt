@@ -1,0 +1,137 @@
+-- What a request's row makes the run do.
+use Rattle.std.proofs.Common.{◌≡◌, ℕ, ◌+◌, ◌<◌, ◌≤◌, List, [], ◌∷◌, ◌++◌, length, map, Bool, true, false, not, filter, cond, Option, Some, None, Result, Ok, Err, refl, sym, ap, subst, ◌∙◌, inl, inr, arith, length-append, codes}
+use Rattle.std.specs.Option.{option_map_or}
+use Rattle.std.specs.Result.{result_map_both}
+use Rattle.std.proofs.lemmas.List.{map-append}
+use Rattle.doc_model.specs.Document.{Document}
+use Rattle.doc_model.specs.ReadDoc.{doc_of}
+use Rattle.search_model.specs.Live.{Change, added, after, has_id}
+use Rattle.search_model.specs.Answer.{Asked, answer}
+use Rattle.search_model.specs.Messages.{doc_message}
+use Rattle.search_model.specs.Reply.{Outcome, accepted, found, refused, no_memory}
+use Rattle.search_model.specs.TermQuery.{asked_of}
+use Rattle.script_form.specs.declared.config.Config.{Config}
+use Rattle.run_laws.specs.Rows.{RequestRow}
+use Rattle.run_laws.specs.Calls.{Call}
+use Rattle.run_laws.specs.CallReadings.{commit_of}
+use Rattle.run_laws.specs.Lawful.{Shows}
+use Rattle.run_history.specs.Tellings.{Wanted, an_update, a_searcher, an_answer, form_wants, wants}
+use Rattle.run_history.specs.Agreement.{RepliesIdly}
+use Rattle.client_runner.specs.declared.rows.Verb.TheVariants as Verb
+use Rattle.client_runner.specs.declared.runner.Head.{Head}
+use Rattle.client_runner.specs.declared.runner.Reply.{Reply}
+use Rattle.client_runner.specs.Runs.{Follows}
+use Rattle.client_runner.specs.declared.rows.RequestRow as rows
+use Rattle.client_runner.specs.Standings.{Standing, HasRoom, Shown, acquired, call_of, changed, opened, shown_row, told_too}
+use Rattle.client_runner.specs.Views.{verb_view, request_view}
+use Rattle.client_runner.proofs.Follows.{idle_follows, update_follows, query_follows, opening_follows}
+
+-- ---- what a request of each verb wants
+
+pub wants_add : (c : Config) (h : Head) (body : List ℕ) → h.verb ≡ Verb.Add → wants c (call_of h body) ≡ result_map_both an_update (λ m. m) (result_map_both added doc_message (doc_of c.schema body))
+wants_add c h body e = ap (λ v. wants c (record { phase = h.phase; client = h.client; line = h.line; verb = verb_view v; body = body })) e
+
+pub wants_delete : (c : Config) (h : Head) (body : List ℕ) → h.verb ≡ Verb.Delete → wants c (call_of h body) ≡ Err (codes "NotBuilt")
+wants_delete c h body e = ap (λ v. wants c (record { phase = h.phase; client = h.client; line = h.line; verb = verb_view v; body = body })) e
+
+pub wants_query : (c : Config) (h : Head) (body : List ℕ) → h.verb ≡ Verb.Query → wants c (call_of h body) ≡ result_map_both an_answer (λ m. m) (option_map_or Ok (asked_of c.schema body) (Err (codes "NotBuilt")))
+wants_query c h body e = ap (λ v. wants c (record { phase = h.phase; client = h.client; line = h.line; verb = verb_view v; body = body })) e
+
+pub wants_commit : (c : Config) (h : Head) (body : List ℕ) → h.verb ≡ Verb.Commit → wants c (call_of h body) ≡ result_map_both form_wants (λ m. m) (commit_of body)
+wants_commit c h body e = ap (λ v. wants c (record { phase = h.phase; client = h.client; line = h.line; verb = verb_view v; body = body })) e
+
+-- ---- what a row of each kind makes the run do
+
+shows_of_shown : (c : Config) (o : Outcome) (h : Head) (p g k : Option ℕ) (r : Reply) → Shown c o r → Shows c (shown_row h p g k r) o
+shows_of_shown c o h p g k r s = record { reply = s.text; code = s.code; found = s.found; docs = s.docs }
+
+replies_refusal : (c : Config) (row : RequestRow) (m : List ℕ) (w : Result Wanted (List ℕ)) → w ≡ Err m → Shows c row (refused m) → RepliesIdly c row w
+replies_refusal c row m w e s = subst (RepliesIdly c row) (sym e) (inl s)
+
+replies_no_memory : (c : Config) (row : RequestRow) (w : Result Wanted (List ℕ)) → Shows c row no_memory → RepliesIdly c row w
+replies_no_memory c row (Ok wanted) s = s
+replies_no_memory c row (Err message) s = inr s
+
+module _ (c : Config) (h : Head) (body : List ℕ) (st : Standing) (r : Reply) (row : RequestRow) where
+  -- the request was refused
+  pub refused_follows : (m : List ℕ) → row ≡ shown_row h None None None r → Shown c (refused m) r → wants c (call_of h body) ≡ Err m → Follows c (call_of h body) st (told_too st row)
+  refused_follows m e s w =
+      subst (λ (x : RequestRow). Follows c (call_of h body) st (told_too st x)) (sym e)
+      (idle_follows c (call_of h body) st (shown_row h None None None r) refl (record { place = refl; generation = refl; ticket = refl })
+      (replies_refusal c (shown_row h None None None r) m (wants c (call_of h body)) w (shows_of_shown c (refused m) h None None None r s)))
+
+  -- there was no memory
+  pub no_memory_follows : row ≡ shown_row h None None None r → Shown c no_memory r → Follows c (call_of h body) st (told_too st row)
+  no_memory_follows e s =
+      subst (λ (x : RequestRow). Follows c (call_of h body) st (told_too st x)) (sym e)
+      (idle_follows c (call_of h body) st (shown_row h None None None r) refl (record { place = refl; generation = refl; ticket = refl })
+      (replies_no_memory c (shown_row h None None None r) (wants c (call_of h body)) (shows_of_shown c no_memory h None None None r s)))
+
+  -- an update was accepted at this place
+  pub accepted_follows : (change : Change) (place : ℕ) (new : Standing) → row ≡ shown_row h (Some place) None None r → place ≡ st.place → Shown c accepted r → wants c (call_of h body) ≡ Ok (an_update change) → new ≡ changed change st
+      → Follows c (call_of h body) st (told_too new row)
+  accepted_follows change place new e p s w n =
+      subst (λ (x : Standing). Follows c (call_of h body) st (told_too x row)) (sym n)
+      (subst (λ (x : RequestRow). Follows c (call_of h body) st (told_too (changed change st) x)) (sym e)
+      (update_follows c (call_of h body) st (shown_row h (Some place) None None r) refl change w (record { place = ap Some p; generation = refl; ticket = refl })
+      (shows_of_shown c accepted h (Some place) None None r s)))
+
+  -- a query was answered by the current searcher
+  pub answered_follows : (asked : Asked) (generation ticket : ℕ) (new : Standing) → row ≡ shown_row h None (Some generation) (Some ticket) r → generation ≡ st.current.generation → ticket ≡ st.current.acquired
+      → Shown c (found asked (answer st.served asked)) r → wants c (call_of h body) ≡ Ok (an_answer asked) → new ≡ acquired st → Follows c (call_of h body) st (told_too new row)
+  answered_follows asked generation ticket new e g k s w n =
+      subst (λ (x : Standing). Follows c (call_of h body) st (told_too x row)) (sym n)
+      (subst (λ (x : RequestRow). Follows c (call_of h body) st (told_too (acquired st) x)) (sym e)
+      (query_follows c (call_of h body) st (shown_row h None (Some generation) (Some ticket) r) refl asked w (record { place = refl; generation = ap Some g; ticket = ap Some k })
+      (shows_of_shown c (found asked (answer st.served asked)) h None (Some generation) (Some ticket) r s)))
+
+  -- a commit opened a searcher at this place
+  pub opened_follows : (place generation : ℕ) (new : Standing) → row ≡ shown_row h (Some place) (Some generation) None r → place ≡ st.place → generation ≡ st.current.generation + 1 → Shown c accepted r
+      → wants c (call_of h body) ≡ Ok a_searcher → 0 < c.max_warming → HasRoom 1 st → new ≡ opened st → Follows c (call_of h body) st (told_too new row)
+  opened_follows place generation new e p g s w room left n =
+      subst (λ (x : Standing). Follows c (call_of h body) st (told_too x row)) (sym n)
+      (subst (λ (x : RequestRow). Follows c (call_of h body) st (told_too (opened st) x)) (sym e)
+      (opening_follows c (call_of h body) st (shown_row h (Some place) (Some generation) None r) refl w (record { place = ap Some p; generation = ap Some g; ticket = refl })
+      (shows_of_shown c accepted h (Some place) (Some generation) None r s) room left.generation))
+
+-- the same from and to standings that are these
+pub follows_at : (c : Config) (call : Call) (old old' new new' : Standing) → old' ≡ old → new' ≡ new → Follows c call old new → Follows c call old' new'
+follows_at c call old old' new new' p q f =
+    subst (λ (x : Standing). Follows c call x new') (sym p) (subst (λ (x : Standing). Follows c call old x) (sym q) f)
+
+-- ---- the row is kept
+
+-- where the rows are the same, the standing is
+pub same_rows : (st : Standing) (before now : List rows.RequestRow) → now ≡ before → record st { rows = map request_view now } ≡ record st { rows = map request_view before }
+same_rows st before now e = ap (λ (xs : List rows.RequestRow). record st { rows = map request_view xs }) e
+
+-- where one row is put behind the others, it is told too
+pub one_row_more : (st : Standing) (before now : List rows.RequestRow) (row : rows.RequestRow) → now ≡ before ++ row ∷ [] → record st { rows = map request_view now } ≡ told_too (record st { rows = map request_view before }) (request_view row)
+one_row_more st before now row e = ap (λ (xs : List RequestRow). record st { rows = xs }) (ap (map request_view) e ∙ map-append request_view before (row ∷ []))
+
+-- ---- the room that is left
+
+filter_short : {A : Type 0} (p : A → Bool) (xs : List A) → length (filter p xs) ≤ length xs
+filter_short p [] = omega arith
+filter_short p (x ∷ xs) =
+    elim (p x) as (λ b. length (cond b (x ∷ filter p xs) (filter p xs)) ≤ length (x ∷ xs)) [
+      | true ↦ let h = filter_short p xs in omega arith
+      | false ↦ let h = filter_short p xs in omega arith
+    ]
+
+after_short : (docs : List Document) (d : Document) → length (after docs (added d)) ≤ length docs + 1
+after_short docs d =
+    let h = filter_short (λ e. not (has_id d.id e)) docs in
+    omega (arith, length-append (filter (λ e. not (has_id d.id e)) docs) (d ∷ []))
+
+pub changed_room : (st : Standing) (d : Document) (n : ℕ) → HasRoom (n + 1) st → HasRoom n (changed (added d) st)
+changed_room st d n h = record {
+  place = omega (arith, h.place);
+  generation = omega (arith, h.generation);
+  acquired = omega (arith, h.acquired);
+  served = omega (arith, h.served);
+  docs = omega (arith, h.docs, after_short st.docs d);
+}
+
+pub told_room : (st : Standing) (row : RequestRow) (n : ℕ) → HasRoom n st → HasRoom n (told_too st row)
+told_room st row n h = record { place = h.place; generation = h.generation; acquired = h.acquired; served = h.served; docs = h.docs }

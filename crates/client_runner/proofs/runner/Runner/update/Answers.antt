@@ -1,0 +1,29 @@
+use Rattle.std.proofs.Common.{sym, ◌∙◌, ap, Err}
+use Rattle.std.specs.Result.{result_map_both}
+use Rattle.search_model.specs.Live.{added}
+use Rattle.search_model.specs.Messages.{doc_message}
+use Rattle.run_history.specs.Tellings.{an_update}
+use Rattle.client_runner.specs.Standings.{standing}
+use Rattle.client_runner.specs.Views.{request_view}
+use Rattle.client_runner.proofs.Answered.{accepted_follows, changed_room, refused_follows, wants_add}
+use Rattle.client_runner.proofs.runner.Runner.update.Goals as goal
+
+-- the document was read
+pub returns-in_ok-place-in-Ok-clause-ok : goal.returns-in_ok-place-in-Ok-clause-ok
+returns-in_ok-place-in-Ok-clause-ok c =
+    accepted_follows c.args.config.now c.args.head c.args.body.now (standing c.args.self.now) c.in_ok-reply-in-Ok.reply (request_view c.row.result) (added c.in-Ok.doc) c.in_ok-place-in-Ok.place (standing c.add.new.self)
+    c.row.ensures c.in_ok-place-in-Ok.ensures.place c.in_ok-reply-in-Ok.ensures
+    (wants_add c.args.config.now c.args.head c.args.body.now c.requires.verb ∙ ap (λ r. result_map_both an_update (λ m. m) (result_map_both added doc_message r)) c.in-Ok.ensures.read)
+    c.in_ok-place-in-Ok.ensures.ok
+
+pub returns-in_ok-place-in-Ok-clause-room : goal.returns-in_ok-place-in-Ok-clause-room
+returns-in_ok-place-in-Ok-clause-room c n h = rw c.in_ok-place-in-Ok.ensures.ok (changed_room (standing c.args.self.now) c.in-Ok.doc n h)
+
+-- the fault is the first one, and no want of memory
+pub returns-in_ok-reply-in-Err-clause-ok : goal.returns-in_ok-reply-in-Err-clause-ok
+returns-in_ok-reply-in-Err-clause-ok c =
+    let told = rw c.in_ok-message-in-Err.ensures.fault at c.in-Err.ensures.read in
+    refused_follows c.args.config.now c.args.head c.args.body.now (standing c.args.self.now) c.in_ok-reply-in-Err.reply (request_view c.row-in-Err.result) c.get.result.now
+    c.row-in-Err.ensures c.in_ok-reply-in-Err.ensures
+    (wants_add c.args.config.now c.args.head c.args.body.now c.requires.verb ∙ ap (λ r. result_map_both an_update (λ m. m) (result_map_both added doc_message r)) told
+    ∙ ap Err (sym c.in_ok-message-in-Err.ensures.message ∙ sym c.get.ensures))

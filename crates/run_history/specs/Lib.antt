@@ -1,0 +1,4 @@
+pub mod Tellings
+pub mod Agreement
+pub mod Serial
+pub mod Trials
