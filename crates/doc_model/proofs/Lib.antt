@@ -2,4 +2,6 @@ pub mod Lists
 pub mod Shown
 pub mod Values
 pub mod Members
+pub mod WholeNumbers
 pub mod UniqueKey
+pub mod Again

@@ -14,9 +14,11 @@ use Rattle.field_schema.specs.Schema.{Fields, field_named, names_differ}
 use Rattle.field_schema.specs.declared.field.Field.{Field}
 use Rattle.field_schema.specs.declared.key.Key.{Key}
 use Rattle.std.specs.Cmp.Lexicographic.{bytes_decides}
+use Rattle.std.proofs.lemmas.List.Quantifiers.{position-Some}
+use Rattle.doc_model.proofs.Shown.{is_there}
 use Rattle.doc_model.specs.declared.doc.DocFault.{DocFault}
-use Rattle.field_schema.proofs.Readers.{ok_told, err_told, weaker}
-use Rattle.doc_model.specs.Readers.{member_or_fault}
+use Rattle.field_schema.proofs.Readers.{or_some, ok_told, err_told, weaker}
+use Rattle.doc_model.specs.Readers.{member_or_fault, values_or_fault}
 use Rattle.doc_model.specs.ReadDoc.{is_no_memory, member_values, values_of, members_fault, lacks_id, object_doc}
 
 -- ---- the field of a name
@@ -133,6 +135,16 @@ walk_on fields all left d e i values apart sorted w named told =
 walk_fails : (fields : List Field) (all left : List Entry) (d : List (List Key)) (e : Entry) (x : DocFault) → Walked fields all (e ∷ left) d
     → member_or_fault fields (string_bytes e.0) (view e.1) ≡ Err x → members_fault fields (members_view all) ≡ Some x
 walk_fails fields all left d e x w bad = w.fault ∙ rw (err_told _ _ x bad) refl
+
+-- the place that a name finds is that of a field
+pub named_there : (name : List ℕ) (fs : List Field) (i : ℕ) → field_named name fs ≡ Some i → None ≡ slice_get fs i → ⊥
+named_there name [] i named none = cc
+named_there name (f ∷ fs) i named none = is_there (f ∷ fs) i ((position-Some (λ g. bytes_eq g.name name) (f ∷ fs) i f named).0) none
+
+-- the fault of a member is that of its values in its field
+pub member_told : (fs : List Field) (name : List ℕ) (d : Data) (i : ℕ) (f : Field) (e : DocFault) → field_named name fs ≡ Some i → slice_get fs i ≡ Some f
+    → MatchBool (is_no_memory e) ⊤ (values_or_fault f d ≡ Err e) → MatchBool (is_no_memory e) ⊤ (member_or_fault fs name d ≡ Err e)
+member_told fs name d i f e named here told = weaker (is_no_memory e) (λ t. or_some _ _ e (rw (named, here) (err_told _ _ e t))) told
 
 -- the same of the whole object
 pub walk_told : (s : Fields) (all left : List Entry) (d : List (List Key)) (e : Entry) (x : DocFault) → lacks_id s (members_view all) ≡ false → Walked s.list all (e ∷ left) d

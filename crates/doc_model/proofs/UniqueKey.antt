@@ -122,7 +122,7 @@ field_at fs i f apart e =
 
 -- ---- the id of an object without faults
 
-keyed : (f : Field) → IsTrue (can_be_key f) → (is_str f.kind ≡ true) × (f.multi ≡ false)
+pub keyed : (f : Field) → IsTrue (can_be_key f) → (is_str f.kind ≡ true) × (f.multi ≡ false)
 keyed f h = parts (is_str f.kind) f.stored f.indexed f.multi h
   where
     parts : (a b c m : Bool) → IsTrue (a && b && c && not m) → (a ≡ true) × (m ≡ false)
@@ -139,7 +139,7 @@ at_kind kind.Bool d vs h e few = cc
 at_kind kind.Text d vs h e few = cc
 
 -- at most one value where the field takes one
-few_values : (m long : Bool) (n : ℕ) (bad : DocFault) (rest : Option DocFault) → m ≡ false → nat_lt 1 n ≡ long → cond (not m && long) (Some bad) rest ≡ None → n ≤ 1
+pub few_values : (m long : Bool) (n : ℕ) (bad : DocFault) (rest : Option DocFault) → m ≡ false → nat_lt 1 n ≡ long → cond (not m && long) (Some bad) rest ≡ None → n ≤ 1
 few_values true long n bad rest single is fine = cc
 few_values false true n bad rest single is fine = cc
 few_values false false n bad rest single is fine = ltb-false 1 n is
@@ -178,7 +178,7 @@ with_id_at : (vs : List (List Key)) (i : ℕ) (t : List ℕ) → values_at vs i 
 with_id_at vs i t e = rw e refl
 
 -- the field of the unique key
-key_there : (o : Option Field) → IsSomeAnd o (λ f. IsTrue (can_be_key f)) → (f : Field) × (o ≡ Some f) × IsTrue (can_be_key f)
+pub key_there : (o : Option Field) → IsSomeAnd o (λ f. IsTrue (can_be_key f)) → (f : Field) × (o ≡ Some f) × IsTrue (can_be_key f)
 key_there None h = absurd h
 key_there (Some f) h = (f, refl, h)
 

@@ -1,10 +1,10 @@
 -- Which document a body reads to, and its first fault.
-use Rattle.std.specs.Prelude.{ℕ, List, [], ◌∷◌, ◌++◌, length, Bool, true, false, not, ◌&&◌, nat_lt, if◌then◌else◌, Option, Some, None, option_and_then, option_map, unwrap_or, Result, Ok, Err, map, slice_get, decimal}
+use Rattle.std.specs.Prelude.{ℕ, List, [], ◌∷◌, ◌++◌, length, Bool, true, false, not, ◌&&◌, nat_lt, if◌then◌else◌, Option, Some, None, option_and_then, option_map, unwrap_or, Result, Ok, Err, map, slice_get, decimal, ℤ}
 use Rattle.std.specs.Option.{option_map_or}
 use Rattle.std.specs.List.{list_all}
 use Rattle.std.specs.Fmt.{signed_decimal}
 use Rattle.serde_json.specs.Data.{Num, unsigned, negative, float, Data, null, boolean, number, string, array, Members, no_members, member}
-use Rattle.serde_json.specs.Find.{get_member, as_object, as_i64}
+use Rattle.serde_json.specs.Find.{get_member, as_object, as_integer}
 use Rattle.serde_json.specs.Read.{read}
 use Rattle.field_schema.specs.declared.field.Field.{Field}
 use Rattle.field_schema.specs.declared.field.FieldType.{FieldType}
@@ -15,7 +15,7 @@ use Rattle.field_schema.specs.Schema.{Fields, field_named}
 use Rattle.field_schema.specs.ReadSchema.{listed}
 use Rattle.doc_model.specs.declared.doc.DocFault.{DocFault}
 use Rattle.doc_model.specs.declared.doc.DocFault.TheVariants as fault
-use Rattle.field_schema.specs.ValueTexts.{long_text, begins_true, truth_text}
+use Rattle.field_schema.specs.ValueTexts.{is_i64, long_text, begins_true, truth_text}
 use Rattle.doc_model.specs.Document.{Document, str_text, with_id}
 
 -- want of memory is no fault of the body
@@ -38,10 +38,14 @@ text_value kind.Long text = option_map key.Long (long_text text)
 text_value kind.Bool text = Some (key.Bool (begins_true text))
 text_value kind.Text text = Some (key.Token text)
 
+-- a whole number within 64 signed bits
+abbrev pub long_value : ℤ → Option Key
+long_value z = if is_i64 z then Some (key.Long z) else None
+
 -- a number in a field of a type
 abbrev pub number_value : FieldType → Num → Option Key
 number_value kind.Str n = option_map key.Str (whole_text n)
-number_value kind.Long n = option_map key.Long (as_i64 n)
+number_value kind.Long n = option_and_then long_value (as_integer n)
 number_value kind.Bool n = option_map (λ t. key.Bool (begins_true t)) (whole_text n)
 number_value kind.Text n = option_map key.Token (whole_text n)
 

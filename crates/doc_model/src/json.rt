@@ -87,6 +87,7 @@ fn list_value(alloc: Global, values: &[Key]) -> Result<Value, NoMemory>
     Ok(Value::Array(items))
 }
 
+// What a value is as JSON.
 fn json_value(alloc: Global, value: &Key) -> Result<Value, NoMemory>
     ensures { IfOk result (λ v. view v ≡ value_data value.now) }
 {

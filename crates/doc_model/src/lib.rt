@@ -3,6 +3,7 @@
 
 mod doc;
 mod json;
+pub mod laws;
 mod object;
 #[cfg(test)]
 mod tests;

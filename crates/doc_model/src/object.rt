@@ -101,6 +101,7 @@ fn lacks_id(key: Option<&Field>, members: &Map<String, Value>) -> bool
     }
 }
 
+// The member of that name.
 fn member<'m>(members: &'m Map<String, Value>, name: &str) -> Option<&'m Value>
     ensures { option_map (λ v. view v.now) result ≡ get_member name.now (members_view members.now.entries) }
 {
@@ -177,6 +178,7 @@ fn too_long(values: &[Key]) -> Option<usize>
     None
 }
 
+// The length of a string field's value, and 0 for others.
 fn str_length(value: &Key) -> usize
     ensures { result ≡ length (str_text value.now) }
 {

@@ -1,10 +1,11 @@
 // What JSON values are in a field of a type.
-ghost use Rattle.std.specs.Prelude.{◌≡◌, ◌++◌, List, Some, None, IfOk, MatchResult, IsSome, [], ◌∷◌, option_map, option_to_list, map, string_bytes};
+ghost use Rattle.std.specs.Prelude.{◌≡◌, ◌++◌, List, Some, None, IfOk, MatchResult, IsSome, [], ◌∷◌, option_map, option_and_then, option_to_list, map, string_bytes};
 ghost use Rattle.serde_json.specs.View.{view, number_view};
 ghost use Rattle.field_schema.specs.declared.key.Key.{Key};
+ghost use Rattle.serde_json.specs.Find.{as_integer};
 ghost use Rattle.field_schema.specs.Outcome.{GivesAs};
 ghost use Rattle.doc_model.specs.Readers.{of_type};
-ghost use Rattle.doc_model.specs.ReadDoc.{is_no_memory, whole_text as text_of_whole, text_value as value_of_text, number_value as value_of_number, truth_value as value_of_truth, scalar_values, list_values, member_values as values_of_member};
+ghost use Rattle.doc_model.specs.ReadDoc.{is_no_memory, long_value, whole_text as text_of_whole, text_value as value_of_text, number_value as value_of_number, truth_value as value_of_truth, scalar_values, list_values, member_values as values_of_member};
 
 use crate::doc::DocFault;
 use field_schema::{Field, FieldType, Key, NoMemory, Text, begins_true, long_text, truth_text};
@@ -78,6 +79,7 @@ fn scalar_value(alloc: Global, field: &Field, value: &Value) -> Result<Option<Ke
     }
 }
 
+// What a text is in a field of the type.
 fn text_value(alloc: Global, kind: FieldType, text: &str) -> Result<Option<Key>, NoMemory>
     ensures { IfOk result (λ k. k ≡ value_of_text kind text.now) }
 {
@@ -89,15 +91,26 @@ fn text_value(alloc: Global, kind: FieldType, text: &str) -> Result<Option<Key>,
     }
 }
 
+// What a number is in a field of the type.
 fn number_value(alloc: Global, kind: FieldType, number: &Number) -> Result<Option<Key>, NoMemory>
     ensures { IfOk result (λ k. k ≡ value_of_number kind (number_view number.now)) }
 {
     if kind == FieldType::Long {
-        return Ok(number.as_i64().map(Key::Long));
+        return Ok(whole_number(number));
     }
     match whole_text(alloc, number)? {
         Some(text) => text_value(alloc, kind, text.as_str()),
         None => Ok(None),
+    }
+}
+
+// A whole number within 64 signed bits.
+fn whole_number(number: &Number) -> Option<Key>
+    ensures { result ≡ option_and_then long_value (as_integer (number_view number.now)) }
+{
+    match number.as_i64() {
+        Some(whole) => Some(Key::Long(whole)),
+        None => None,
     }
 }
 
@@ -114,6 +127,7 @@ fn whole_text(alloc: Global, number: &Number) -> Result<Option<String>, NoMemory
     }
 }
 
+// What true or false is in a field of the type.
 fn truth_value(alloc: Global, kind: FieldType, truth: bool) -> Result<Option<Key>, NoMemory>
     ensures { IfOk result (λ k. k ≡ value_of_truth kind truth) }
 {

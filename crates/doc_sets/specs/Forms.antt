@@ -1,4 +1,4 @@
--- The two forms of a set.
+-- For private clauses alone: the two forms of a set.
 use Rattle.std.specs.Prelude.{ℕ, ◌*◌, ◌<◌, ◌≤◌, List, length}
 use Rattle.std.specs.FinSet.{from_list}
 use Rattle.doc_sets.specs.Sets.{Numbers, IsAscending}

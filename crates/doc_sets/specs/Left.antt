@@ -1,4 +1,4 @@
--- What is left of a walk along a row.
+-- For private clauses alone: what is left of a walk along a row.
 use Rattle.std.specs.Prelude.{ℕ, ◌+◌, List, ◌∷◌, map}
 use Rattle.doc_sets.specs.BitRows.{numbers_of}
 

@@ -1,4 +1,4 @@
--- What is left of a walk along a set.
+-- For private clauses alone: what is left of a walk along a set.
 use Rattle.std.specs.Prelude.{ℕ, List}
 use Rattle.doc_sets.specs.declared.walk.Walk.{Walk}
 use Rattle.doc_sets.specs.declared.walk.Walk.TheVariants.{Listed, Bits}

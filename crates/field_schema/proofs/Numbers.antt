@@ -15,7 +15,7 @@ numerals = numerals_by_value _ tells_all_ascii_digits
 digits-Decides : (ds : List ℕ) → Decides (all_ascii_digits ds) (AllDigits 10 ds)
 digits-Decides ds = (numerals.to ds, numerals.from ds)
 
-is_i64-Decides : (z : ℤ) → Decides (is_i64 z) (FitsSigned w64 z)
+pub is_i64-Decides : (z : ℤ) → Decides (is_i64 z) (FitsSigned w64 z)
 is_i64-Decides (pos n) = let t = Decides-ltb n (2 ^ 63) in (λ e. record { sfits = t.0 e }, λ h. t.1 h.sfits)
 is_i64-Decides (negsuc n) = let t = Decides-ltb n (2 ^ 63) in (λ e. record { sfits = t.0 e }, λ h. t.1 h.sfits)
 

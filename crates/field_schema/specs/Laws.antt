@@ -1,6 +1,6 @@
--- Proofs, which no reader needs to believe: the laws of the comparisons of texts, of lists of texts and of keys. Of each of the three, `-same` says that what
--- the test finds equal is one value, `-refl` that a value equals itself, `-Decides` both, and `_total`, `_equiv`,
--- `_po` and `_ties` are the laws of the traits.
+-- Proofs, which no reader needs to believe: the laws of the comparisons of texts, of lists of texts and of keys.
+-- Of each of the three, `-same` says that what the test finds equal is one value, `-refl` that a value equals itself,
+-- `-Decides` both, and `_total`, `_equiv`, `_po` and `_ties` are the laws of the traits.
 use Rattle.std.specs.Prelude.{◌≡◌, ℕ, ℤ, List, [], Bool, true, false, pos, Decides, Some, refl}
 use Rattle.std.specs.Ordering.{nat_cmp, int_cmp, bool_cmp, ordering_then, then_cmp, on, eq_by_cmp, is_eq}
 use Rattle.std.specs.declared.cmp.Ordering.{Ordering}

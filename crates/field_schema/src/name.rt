@@ -11,6 +11,7 @@ pub(crate) fn is_field_name(name: &str) -> bool
     begins_name(bytes) && bytes.len() <= 64 && are_name_bytes(bytes) && !is_reserved(name)
 }
 
+// Whether a letter or `_` stands first.
 fn begins_name(bytes: &[u8]) -> bool
     ensures { result ≡ begins_name bytes.now }
 {
@@ -20,18 +21,21 @@ fn begins_name(bytes: &[u8]) -> bool
     }
 }
 
+// Whether all are letters, digits or `_`.
 fn are_name_bytes(bytes: &[u8]) -> bool
     ensures { result ≡ list_all is_name_byte bytes.now }
 {
     bytes.iter().all(|c| is_name_byte(*c))
 }
 
+// A letter, a digit or `_`.
 fn is_name_byte(c: u8) -> bool
     ensures { result ≡ is_name_byte c }
 {
     c.is_ascii_alphanumeric() || c == b'_'
 }
 
+// A name that means something else in a query or a sort.
 fn is_reserved(name: &str) -> bool
     ensures { result ≡ list_any (bytes_eq name.now) reserved_names }
 {

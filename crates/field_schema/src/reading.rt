@@ -68,6 +68,7 @@ fn typed_field(name: Text, value: &Value) -> Result<Field, SchemaFault>
     }
 }
 
+// The field type of that name.
 fn kind_named(name: &str) -> Option<FieldType>
     ensures { result ≡ kind_named name.now }
 {
@@ -101,6 +102,7 @@ pub(crate) fn key_place(fields: &[Field], value: &Value) -> Option<FieldNo>
     None
 }
 
+// Whether the field is a stored and indexed string field of one value.
 fn can_be_key(field: &Field) -> bool
     ensures { result ≡ can_be_key field.now }
 {

@@ -1,4 +1,4 @@
--- The laws of the order of ends and of sorts.
+-- Proofs, which no reader needs to believe: the laws of the order of ends and of sorts.
 use Rattle.std.specs.Prelude.{◌≡◌, List, [], ◌∷◌, true, false, refl}
 use Rattle.std.specs.Bool.{Decides}
 use Rattle.std.specs.Ordering.{nat_cmp, bool_cmp, ordering_then, is_eq, is_lt, is_gt}

@@ -1,4 +1,4 @@
--- The laws of the order of queries.
+-- Proofs, which no reader needs to believe: the laws of the order of queries.
 use Rattle.std.specs.Prelude.{◌≡◌, ℕ, ◌+◌, ◌≤◌, ◌==◌, List, [], ◌∷◌, map, true, refl}
 use Rattle.std.specs.Bool.{Decides}
 use Rattle.std.specs.Ordering.{nat_cmp, ordering_then, ordering_reverse, on, is_eq}
