@@ -1,12 +1,12 @@
 -- The run in which memory is wanting for each request.
-use Rattle.std.proofs.Common.{◌≡◌, ℕ, ◌<◌, List, [], ◌∷◌, ◌++◌, map, Option, Some, None, Result, Ok, Err, refl, sym, ap, subst, ◌∙◌, inl, inr, append-nil, append_assoc}
+use Rattle.std.proofs.Common.{◌≡◌, ℕ, ◌<◌, List, [], ◌∷◌, ◌++◌, map, None, Result, Ok, Err, refl, sym, ap, subst, inr, append-nil, append_assoc}
 use Rattle.std.specs.List.{AllByRecursion}
 use Rattle.search_model.specs.Live.{nothing}
 use Rattle.search_model.specs.Reply.{no_memory, reply_text, code_of, found_of, docs_of}
 use Rattle.script_form.specs.declared.config.Config.{Config}
 use Rattle.script_form.specs.declared.script.Line.{Line}
 use Rattle.run_laws.specs.Rows.{RequestRow, Output}
-use Rattle.run_laws.specs.Calls.{Call, Told, calls_of}
+use Rattle.run_laws.specs.Calls.{Call, calls_of}
 use Rattle.run_laws.specs.Lawful.{Ascends, Lawful, Shows}
 use Rattle.run_history.specs.Tellings.{Telling, Wanted, wants}
 use Rattle.run_history.specs.Agreement.{RepliesIdly}

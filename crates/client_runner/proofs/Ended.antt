@@ -1,9 +1,9 @@
 -- What a serial run gives at its end goes by its history.
-use Rattle.std.proofs.Common.{◌≡◌, ℕ, zero, suc, ◌+◌, ◌<◌, ◌≤◌, List, [], ◌∷◌, ◌++◌, length, map, get_or, refl, sym, ap, ap₂, subst, ◌∙◌, arith}
+use Rattle.std.proofs.Common.{◌≡◌, ℕ, ◌<◌, ◌≤◌, List, [], ◌∷◌, ◌++◌, length, map, get_or, refl, sym, ap, ap₂, subst, ◌∙◌, arith}
 use Rattle.std.specs.List.{AllByRecursion}
 use Rattle.std.specs.List.Sorted.{IsPermutation, IsNonDecreasingBy}
 use Rattle.std.proofs.lemmas.List.Elements.{All-from_recursion, recursion_from_All}
-use Rattle.std.proofs.lemmas.List.Sorted.{All-permutation, IsPermutation-map, IsPermutation-sym, IsPermutation-trans}
+use Rattle.std.proofs.lemmas.List.Sorted.{All-permutation, IsPermutation-map, IsPermutation-trans}
 use Rattle.std.proofs.lemmas.List.{length-map, get_or-map, map-append}
 use Rattle.script_form.specs.declared.config.Config.{Config}
 use Rattle.script_form.specs.declared.script.Line.{Line}
@@ -15,7 +15,7 @@ use Rattle.search_model.specs.Live.{nothing}
 use Rattle.run_history.specs.Agreement.{Agrees, OutputAgrees, ComesBefore}
 use Rattle.run_history.specs.Serial.{first_life, start_entries}
 use Rattle.run_history.proofs.Elements.{all_unmap}
-use Rattle.run_history.proofs.Ordering.{calls_ascend, map_map}
+use Rattle.run_history.proofs.Ordering.{calls_ascend}
 use Rattle.run_history.proofs.Starts.{permuted}
 use Rattle.run_history.proofs.Laws.{lawful}
 use Rattle.client_runner.specs.Histories.{Event, reading, limits, GoesByHistory}
@@ -108,7 +108,7 @@ none_served c room = record { history = start_entries 1 (0, nothing) 1 []; telli
 pub one_more_served : (c : Config) (calls : List Call) (call : Call) (old new : Standing) → Served c calls old → Follows c call old new → AllByRecursion (λ q. ComesBefore call q → ⊥) calls → Served c (calls ++ call ∷ []) new
 one_more_served c calls call old new before follows last =
     let goes : Goes c before.history before.tellings call new = follows before.history before.tellings before.lives before.runs
-        (all_unmap (λ (t : Telling). t.told.call) (λ q. ComesBefore call q → ⊥) before.tellings (subst (AllByRecursion (λ q. ComesBefore call q → ⊥)) (sym before.calls_are) last)) in
+    (all_unmap (λ (t : Telling). t.told.call) (λ q. ComesBefore call q → ⊥) before.tellings (subst (AllByRecursion (λ q. ComesBefore call q → ⊥)) (sym before.calls_are) last)) in
     record {
       history = before.history ++ goes.more;
       tellings = before.tellings ++ record { told = record { call = call; row = goes.row }; index = goes.index } ∷ [];

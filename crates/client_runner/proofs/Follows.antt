@@ -1,24 +1,24 @@
 -- How a serial run goes on by one request.
-use Rattle.std.proofs.Common.{◌≡◌, ◌≢◌, ◌⊎◌, ℕ, suc, ◌+◌, ◌-◌, ◌*◌, ◌/◌, ◌%◌, ◌^◌, ◌<◌, ◌≤◌, List, [], ◌∷◌, ◌++◌, length, map, Bool, true, false, cond, Option, Some, None, Result, Ok, Err, refl, sym, ap, ap₂, subst, ◌∙◌, inl, inr, arith, append-nil}
-use Rattle.std.specs.Prelude.{◌==◌, ⊤}
+use Rattle.std.proofs.Common.{◌≡◌, ◌≢◌, ℕ, ◌+◌, ◌%◌, ◌^◌, ◌<◌, List, [], ◌∷◌, ◌++◌, length, map, Bool, true, false, cond, Some, None, Ok, refl, sym, ap, ap₂, subst, ◌∙◌, inl, arith, append-nil}
+use Rattle.std.specs.Prelude.{◌==◌}
 use Rattle.std.specs.List.{AllByRecursion}
 use Rattle.std.proofs.lemmas.Bool.{ne_eqb, eq-eqb}
 use Rattle.std.proofs.lemmas.List.{map-append}
-use Rattle.search_model.specs.Live.{Change, after, nothing}
+use Rattle.search_model.specs.Live.{Change, nothing}
 use Rattle.search_model.specs.Answer.{Asked, answer}
-use Rattle.search_model.specs.Reply.{accepted, found, no_memory}
+use Rattle.search_model.specs.Reply.{accepted, found}
 use Rattle.script_form.specs.declared.config.Config.{Config}
 use Rattle.run_laws.specs.Rows.{RequestRow, SearcherRow}
 use Rattle.run_laws.specs.Calls.{Call, Told}
 use Rattle.run_laws.specs.Lawful.{Shows, IsIdle, call_here, told_here}
-use Rattle.run_history.specs.Tellings.{Telling, Life, Wanted, an_update, a_searcher, an_answer, wants, HasNumbers}
+use Rattle.run_history.specs.Tellings.{Telling, Life, an_update, a_searcher, an_answer, wants, HasNumbers}
 use Rattle.run_history.specs.Agreement.{RepliesIdly}
-use Rattle.run_history.specs.Serial.{Stand, Serves, ComesLast, telling, idle, once_more, acquired_once_more, first_life, next_life, start_entries, update_entries, query_entries, opening_entries, CanStart}
+use Rattle.run_history.specs.Serial.{Serves, telling, idle, once_more, acquired_once_more, first_life, next_life, start_entries, update_entries, query_entries, opening_entries}
 use Rattle.run_history.proofs.Requests.{idle_serves, update_serves, query_serves, opening_serves}
 use Rattle.run_history.proofs.Starts.{starts}
-use Rattle.client_runner.specs.Histories.{Event, reading, limits}
+use Rattle.client_runner.specs.Histories.{reading, limits}
 use Rattle.client_runner.specs.Standings.{Standing, first, changed, acquired, opened, told_too, searchers_of, next_searcher}
-use Rattle.client_runner.specs.Runs.{Runs, Goes, Follows, IsOfItsCall, stand}
+use Rattle.client_runner.specs.Runs.{Runs, Follows, IsOfItsCall, stand}
 
 all_more : {A : Type 0} (P : A → Type 0) (xs : List A) (x : A) → AllByRecursion P xs → P x → AllByRecursion P (xs ++ x ∷ [])
 all_more P [] x h p = (p, tt)

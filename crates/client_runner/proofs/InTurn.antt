@@ -1,5 +1,5 @@
 -- The turns of a script: each is of a line that asks for something, and they rise as they are served.
-use Rattle.std.proofs.Common.{◌≡◌, ◌⊎◌, ℕ, zero, suc, ◌+◌, ◌*◌, ◌^◌, ◌<◌, ◌≤◌, List, [], ◌∷◌, ◌++◌, length, map, take, get_or, Option, Some, None, refl, sym, ap, ap₂, subst, ◌∙◌, inl, inr, arith, slice_get, option_to_list, length-append}
+use Rattle.std.proofs.Common.{◌≡◌, ℕ, zero, suc, ◌+◌, ◌*◌, ◌^◌, ◌<◌, ◌≤◌, List, [], ◌∷◌, ◌++◌, length, map, take, get_or, Option, Some, refl, sym, ap, ap₂, subst, ◌∙◌, inl, inr, arith, slice_get, option_to_list, length-append}
 use Rattle.std.specs.Option.{option_and_then}
 use Rattle.std.specs.List.{All, AllByRecursion}
 use Rattle.std.specs.List.Sorted.{IsPermutation, IsNonDecreasingBy}
@@ -11,12 +11,12 @@ use Rattle.script_form.specs.declared.script.Line.{Line}
 use Rattle.script_form.specs.declared.script.What.{What}
 use Rattle.script_form.specs.declared.script.What.TheVariants as what
 use Rattle.script_form.specs.Ranges as ranges
-use Rattle.run_laws.specs.Rows.{Verb, add, delete, query, commit}
+use Rattle.run_laws.specs.Rows.{add, delete, query, commit}
 use Rattle.run_laws.specs.Calls.{Call, call_as, phase_behind, calls_from, calls_of}
 use Rattle.run_laws.specs.Lawful.{Ascends}
 use Rattle.run_history.specs.Agreement.{ComesBefore}
 use Rattle.run_history.proofs.Elements.{all_append, all_map}
-use Rattle.client_runner.specs.RunOrder.{HasClient, client_of, key_of, turn_of, turns_from, call_at, nobody}
+use Rattle.client_runner.specs.RunOrder.{HasClient, key_of, turn_of, turns_from, call_at, nobody}
 use Rattle.client_runner.specs.declared.order.Turn.{Turn}
 
 -- ---- lines
@@ -100,16 +100,19 @@ from_more script phase index line lines from = record {
 asks : (script : List Line) (phase index client : ℕ) (line : Line) (call : Call) → slice_get script index ≡ Some line → phase ≡ phase_at 0 script index
     → call_as phase line.number line.what ≡ Some call → call.phase ≡ phase → call.line ≡ line.number → call.client ≡ client → client < 16
     → (call_at script (record { key = key_of phase client index; phase = phase; index = index }) ≡ call) × IsTurn script (record { key = key_of phase client index; phase = phase; index = index })
-asks script phase index client line call at place called same_phase same_line same_client below = (is, record {
-  line = line;
-  at = at;
-  called = called ∙ ap (λ x. Some x) (sym is);
-  phase = ap (λ (x : Call). x.phase) is ∙ same_phase;
-  number = ap (λ (x : Call). x.line) is ∙ same_line;
-  key = ap (λ n. key_of phase n index) (sym (ap (λ (x : Call). x.client) is ∙ same_client));
-  client = subst (λ n. n < 16) (sym (ap (λ (x : Call). x.client) is ∙ same_client)) below;
-  place = place;
-})
+asks script phase index client line call at place called same_phase same_line same_client below = (
+  is,
+  record {
+    line = line;
+    at = at;
+    called = called ∙ ap (λ x. Some x) (sym is);
+    phase = ap (λ (x : Call). x.phase) is ∙ same_phase;
+    number = ap (λ (x : Call). x.line) is ∙ same_line;
+    key = ap (λ n. key_of phase n index) (sym (ap (λ (x : Call). x.client) is ∙ same_client));
+    client = subst (λ n. n < 16) (sym (ap (λ (x : Call). x.client) is ∙ same_client)) below;
+    place = place;
+  },
+)
   where
     is : call_at script (record { key = key_of phase client index; phase = phase; index = index }) ≡ call
     is = ap (λ (o : Option Line). Rattle.std.specs.Prelude.unwrap_or (option_and_then (λ (l : Line). call_as phase l.number l.what) o) nobody) at ∙ ap (λ (o : Option Call). Rattle.std.specs.Prelude.unwrap_or o nobody) called
@@ -143,8 +146,7 @@ turns_are script phase index (line ∷ lines) from has =
     let at : slice_get script index ≡ Some line = let e : index ≡ index + 0 = omega arith in subst (λ n. slice_get script n ≡ Some line) (sym e) (from.at 0) in
     let place : phase ≡ phase_at 0 script index = let e : index ≡ index + 0 = omega arith in sym (subst (λ n. phase_at 0 script n ≡ phase) (sym e) (from.phase_is 0)) in
     let one = one_turn script phase index line line.what refl at place has.0 in
-    let rest = turns_are script (phase_behind phase line.what) (index + 1) lines (from_more script phase index line lines from) has.1 in
-    (
+    let rest = turns_are script (phase_behind phase line.what) (index + 1) lines (from_more script phase index line lines from) has.1 in (
       map-append (call_at script) (option_to_list (turn_of phase index line.what)) (turns_from (phase_behind phase line.what) (index + 1) lines) ∙ ap₂ (λ (xs : List Call) ys. xs ++ ys) one.0 rest.0,
       all_append (IsTurn script) (option_to_list (turn_of phase index line.what)) (turns_from (phase_behind phase line.what) (index + 1) lines) one.1 rest.1,
     )
@@ -240,10 +242,10 @@ pub comes_last : (script : List Line) (served : List Turn) (i : ℕ) (d : Turn) 
 comes_last script served i d short numbers are up l =
     all_map (call_at script) (λ q. ComesBefore (call_at script (get_or served i d)) q → ⊥) (take i served)
     (recursion_from_All (λ u. ComesBefore (call_at script (get_or served i d)) (call_at script u) → ⊥) (take i served) (λ k e m.
-        let below : k < i = omega (arith, m, length-take-le i served (omega arith)) in
-        subst (λ (u : Turn). ComesBefore (call_at script (get_or served i d)) (call_at script u) → ⊥) (sym (get_or-take i served k e below))
-        (not_before script (get_or served i d) (get_or served k e) short numbers (are i d l) (are k e (omega arith))
-            (subst (λ (u : Turn). u.key ≤ (get_or served i d).key) (same k e d (omega arith)) (up k i d (omega arith) l)))))
+    let below : k < i = omega (arith, m, length-take-le i served (omega arith)) in
+    subst (λ (u : Turn). ComesBefore (call_at script (get_or served i d)) (call_at script u) → ⊥) (sym (get_or-take i served k e below))
+    (not_before script (get_or served i d) (get_or served k e) short numbers (are i d l) (are k e (omega arith))
+    (subst (λ (u : Turn). u.key ≤ (get_or served i d).key) (same k e d (omega arith)) (up k i d (omega arith) l)))))
   where
     same_read : (xs : List Turn) (k : ℕ) (e f : Turn) → k < length xs → get_or xs k e ≡ get_or xs k f
     same_read [] k e f below = absurd (omega arith)

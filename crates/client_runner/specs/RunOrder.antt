@@ -1,5 +1,5 @@
 -- In which order a script's requests are served: phase by phase, the clients of a phase by number, each client's lines in turn.
-use Rattle.std.specs.Prelude.{ℕ, ◌+◌, ◌*◌, ◌^◌, ◌<◌, List, [], ◌∷◌, ◌++◌, Option, Some, None, map, option_map, option_and_then, unwrap_or, slice_get, IfSome}
+use Rattle.std.specs.Prelude.{ℕ, ◌+◌, ◌*◌, ◌^◌, ◌<◌, List, [], ◌∷◌, ◌++◌, Option, Some, None, option_map, option_and_then, unwrap_or, slice_get, IfSome}
 use Rattle.std.specs.Option.{option_to_list}
 use Rattle.script_form.specs.declared.script.Line.{Line}
 use Rattle.script_form.specs.declared.script.What.{What}

@@ -2,8 +2,9 @@
 use Rattle.std.specs.Prelude.{◌≡◌, ℕ, ◌+◌, ◌%◌, ◌<◌, List, [], ◌∷◌, ◌++◌, map, Option, Some, None}
 use Rattle.std.specs.List.{AllByRecursion}
 use Rattle.script_form.specs.declared.config.Config.{Config}
+use Rattle.script_form.specs.declared.script.Line.{Line}
 use Rattle.run_laws.specs.Rows as plain
-use Rattle.run_laws.specs.Calls.{Call, Told}
+use Rattle.run_laws.specs.Calls.{Call, call_as}
 use Rattle.run_laws.specs.Lawful.{call_here, told_here}
 use Rattle.run_history.specs.Tellings.{Telling, Life}
 use Rattle.run_history.specs.Serial.{Stand, Serves, ComesLast}
@@ -51,6 +52,10 @@ Follows c call old new = (h : List Event) (ts : List Telling) (lives : List Life
 abbrev pub FollowsIf : Config → Option Call → Standing → Standing → Type 0
 FollowsIf c None old new = new ≡ old
 FollowsIf c (Some call) old new = Follows c call old new
+
+-- the line was taken in its turn, in this phase
+abbrev pub TakesLine : Config → ℕ → Line → Standing → Standing → Type 0
+TakesLine c phase line old new = FollowsIf c (call_as phase line.number line.what) old new
 
 -- The request was served next, and this row tells it.
 abbrev pub AnswersBy : Config → Call → Standing → Standing → RequestRow → Type 0

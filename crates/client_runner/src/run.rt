@@ -2,11 +2,10 @@ ghost use Rattle.std.specs.Prelude.{◌≡◌, ◌<◌, ◌≤◌, IfOk, OnOk, l
 ghost use Rattle.std.specs.List.{All};
 ghost use Rattle.std.specs.List.Sorted.{IsNonDecreasingBy, IsPermutation};
 ghost use Rattle.script_form.specs.Ranges.{HasClient};
-ghost use Rattle.run_laws.specs.Calls.{call_as};
 ghost use Rattle.run_laws.specs.Lawful.{Ascends, Lawful};
 ghost use Rattle.client_runner.specs.Histories.{GoesByHistory};
 ghost use Rattle.client_runner.specs.Outputs.{output_view};
-ghost use Rattle.client_runner.specs.Runs.{FollowsIf, LeavesRoom};
+ghost use Rattle.client_runner.specs.Runs.{LeavesRoom, TakesLine};
 ghost use Rattle.client_runner.specs.Standings.{HasRoom, searchers_of, standing};
 
 use crate::order::turns;
@@ -28,7 +27,7 @@ impl Runner {
     ) -> Result<(), NoMemory>
         requires warming { 0 < config.now.max_warming }
         requires room { HasRoom 1 (standing self.old) }
-        ensures follows { OnOk result (FollowsIf config.now (call_as phase line.now.number line.now.what) (standing self.old) (standing self.new)) }
+        ensures follows { OnOk result (TakesLine config.now phase line.now (standing self.old) (standing self.new)) }
         ensures room { OnOk result (LeavesRoom (standing self.old) (standing self.new)) }
     {
         let (client, verb, body) = match &line.what {

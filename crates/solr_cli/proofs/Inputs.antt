@@ -74,11 +74,11 @@ built_is_script s ls script h = script_is most_clients ls script (built_is_read 
 
 above : (m k n : ℕ) → k < n → AllByRecursion (λ q. k < q) (range_with_len n m)
 above zero k n h = tt
-above (suc m) k n h = (h, above m k (suc n) (omega (arith, h)))
+above (suc m) k n h = (h, above m k (n + 1) (omega (arith, h)))
 
 range_ascends : (m n : ℕ) → Ascends (range_with_len n m)
 range_ascends zero n = tt
-range_ascends (suc m) n = (above m n (suc n) (omega arith), range_ascends m (suc n))
+range_ascends (suc m) n = (above m n (n + 1) (omega arith), range_ascends m (n + 1))
 
 -- so they ascend
 pub numbers_ascend : (script : List Line) → IsScript most_clients script → Ascends (map (λ line. line.number) script)

@@ -1,4 +1,4 @@
-use Rattle.std.proofs.Common.{◌≡◌, ◌<◌, ◌≤◌, IfOk, length, map, take, get_or, ℕ, ◌+◌, ◌-◌, ◌*◌, List, [], ◌∷◌, ◌++◌, Option, Some, Result, Ok, Err, ap, sym, subst, ◌∙◌, arith}
+use Rattle.std.proofs.Common.{◌≡◌, ◌<◌, ◌≤◌, IfOk, length, map, take, get_or, ℕ, ◌+◌, ◌-◌, List, [], ◌∷◌, ◌++◌, Option, Some, Result, Ok, Err, ap, sym, subst, ◌∙◌, arith}
 use Rattle.std.specs.List.Sorted.{IsNonDecreasingBy, IsPermutation}
 use Rattle.std.proofs.lemmas.List.{map-append, take_all, take_more}
 use Rattle.std.proofs.lemmas.Result.{IfOk-weaker}
@@ -41,14 +41,14 @@ loop-turn-init g c = record {
 pub bounds-get-turn : goal.bounds-get-turn
 bounds-get-turn g c =
     let known : AreServed c.args.script.now c.deref-turn-items.result.now = are_served c.args.script.now c.get.result.now c.in_ok-turns.turns.items c.deref-turn-items.result.now
-        c.get.ensures c.deref-turn-items.ensures.value c.requires.lines c.requires.clients c.in_ok-turns.ensures.same c.in_ok-turns.ensures.rising in
+    c.get.ensures c.deref-turn-items.ensures.value c.requires.lines c.requires.clients c.in_ok-turns.ensures.same c.in_ok-turns.ensures.rising in
     subst (λ (lines : List Line). (get_or c.deref-turn-items.result.now c.loop-turn.turn-index no_turn).index < length lines) (sym c.get-in-loop-turn.ensures)
     (index_within c.args.script.now (get_or c.deref-turn-items.result.now c.loop-turn.turn-index no_turn) (known.turns c.loop-turn.turn-index no_turn c.loop-turn-test.true))
 
 pub step-requires-clause-room : goal.step-requires-clause-room
 step-requires-clause-room g c =
     let known : AreServed c.args.script.now c.deref-turn-items.result.now = are_served c.args.script.now c.get.result.now c.in_ok-turns.turns.items c.deref-turn-items.result.now
-        c.get.ensures c.deref-turn-items.ensures.value c.requires.lines c.requires.clients c.in_ok-turns.ensures.same c.in_ok-turns.ensures.rising in
+    c.get.ensures c.deref-turn-items.ensures.value c.requires.lines c.requires.clients c.in_ok-turns.ensures.same c.in_ok-turns.ensures.rising in
     let few : length c.deref-turn-items.result.now ≤ 100000 = known.few in
     let in_range : c.loop-turn.turn-index < length c.deref-turn-items.result.now = c.loop-turn-test.true in
     less_room (100000 - c.loop-turn.turn-index) 1 (standing c.loop-turn.runner) (omega (arith, few, in_range)) c.loop-turn.invariant.room
@@ -63,7 +63,7 @@ loop-turn-preserved g c =
     let old = standing c.loop-turn.runner in
     let new = standing c.step.new.self in
     let known : AreServed c.args.script.now c.deref-turn-items.result.now = are_served c.args.script.now c.get.result.now c.in_ok-turns.turns.items c.deref-turn-items.result.now
-        c.get.ensures c.deref-turn-items.ensures.value c.requires.lines c.requires.clients c.in_ok-turns.ensures.same c.in_ok-turns.ensures.rising in
+    c.get.ensures c.deref-turn-items.ensures.value c.requires.lines c.requires.clients c.in_ok-turns.ensures.same c.in_ok-turns.ensures.rising in
     let few : length items ≤ 100000 = known.few in
     let in_range : i < length items = c.loop-turn-test.true in
     let turn = get_or items i no_turn in
@@ -71,7 +71,7 @@ loop-turn-preserved g c =
     let asked : call_as turn.phase line.number line.what ≡ Some (call_at script turn) = asks_for script turn line line (known.turns i no_turn in_range) read in
     let follows : Follows config (call_at script turn) old new = subst (λ (o : Option Call). FollowsIf config o old new) asked c.in_ok-step.ensures.follows in
     let more : Served config (map (call_at script) (take i items) ++ call_at script turn ∷ []) new = one_more_served config (map (call_at script) (take i items)) (call_at script turn) old new c.loop-turn.invariant.served follows
-        (comes_last script items i no_turn c.requires.lines c.requires.numbers known.turns known.rising in_range) in
+    (comes_last script items i no_turn c.requires.lines c.requires.numbers known.turns known.rising in_range) in
     let one_less : 100000 - i ≡ (100000 - (i + 1)) + 1 = omega (arith, few, in_range) in
     record {
       served = subst (λ qs. Served config qs new) (sym (ap (map (call_at script)) (take_more items i no_turn in_range) ∙ map-append (call_at script) (take i items) (turn ∷ []))) more;
@@ -85,10 +85,10 @@ returns-clause-agrees g c =
     let items = c.deref-turn-items.result.now in
     let st = standing c.loop-turn.runner in
     let known : AreServed c.args.script.now c.deref-turn-items.result.now = are_served c.args.script.now c.get.result.now c.in_ok-turns.turns.items c.deref-turn-items.result.now
-        c.get.ensures c.deref-turn-items.ensures.value c.requires.lines c.requires.clients c.in_ok-turns.ensures.same c.in_ok-turns.ensures.rising in
+    c.get.ensures c.deref-turn-items.ensures.value c.requires.lines c.requires.clients c.in_ok-turns.ensures.same c.in_ok-turns.ensures.rising in
     let all : Served config (map (call_at script) items) st = subst (λ (ts : List Turn). Served config (map (call_at script) ts) st) (take_all c.loop-turn.turn-index items c.loop-turn-test.false) c.loop-turn.invariant.served in
     all_ok c.finish.result (λ o. IsPermutation st.rows (output_view o).requests) (λ o. IsNonDecreasingBy (λ (r : plain.RequestRow). r.line) (output_view o).requests) (λ o. (output_view o).searchers ≡ searchers_of st)
-        (λ o. GoesByHistory config script (output_view o))
+    (λ o. GoesByHistory config script (output_view o))
     (λ o moved sorted searchers. ended config script (map (call_at script) items) st (output_view o) all c.requires.numbers known.calls moved sorted searchers)
     c.finish.ensures.rows c.finish.ensures.sorted c.finish.ensures.searchers
 

@@ -1,4 +1,4 @@
-use Rattle.std.proofs.Common.{◌≡◌, ◌-◌, map, take}
+use Rattle.std.proofs.Common.{◌-◌, map, take}
 use Rattle.client_runner.specs.RunOrder.{call_at}
 use Rattle.client_runner.specs.Standings.{HasRoom, standing}
 use Rattle.client_runner.proofs.Ended.{Served}

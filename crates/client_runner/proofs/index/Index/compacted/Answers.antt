@@ -1,6 +1,5 @@
 use Rattle.std.proofs.Common.{◌∙◌, ap, sym, subst, map, true, false}
 use Rattle.std.specs.Arc.{arc_value}
-use Rattle.search_model.specs.Live.{added, after}
 use Rattle.client_runner.specs.IndexState.{IsPlaced, latest}
 use Rattle.client_runner.proofs.Slots.{compacted-more, documents-more_none}
 use Rattle.client_runner.proofs.Seen.{latest_is, mapped_item, mapped_within}
