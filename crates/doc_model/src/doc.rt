@@ -1,4 +1,4 @@
-ghost use Rattle.std.specs.Prelude.{◌≡◌, ◌<◌, ◌≤◌, [], IfOk, IfSome, IfNone, map, slice_index_or};
+ghost use Rattle.std.specs.Prelude.{◌≡◌, ◌<◌, ◌≤◌, [], IfOk, IfSome, IfNone, length, map, slice_index_or};
 ghost use Rattle.std.specs.Arc.{arc_value};
 ghost use Rattle.field_schema.specs.Outcome.{Gives};
 ghost use Rattle.field_schema.specs.Values.{values_at};
@@ -104,6 +104,13 @@ impl Doc {
             [Key::Str(id)] => id,
             _ => unreachable!(),
         }
+    }
+
+    /// How many fields it has. It costs nothing.
+    pub fn width(&self) -> usize
+        ensures { result ≡ length self.now.values }
+    {
+        self.fields.len()
     }
 
     /// The values in a field, in their order; none where there is no such field. It costs nothing.
