@@ -1,0 +1,11 @@
+pub mod Occurrences
+pub mod KeyOrder
+pub mod PostingsGathered
+pub mod Joining
+pub mod JoinedTerms
+pub mod SegmentLaws
+pub mod ViewLaws
+pub mod ViewLoops
+pub mod TermsOfViews
+pub mod DocsOfViews
+pub mod Merging

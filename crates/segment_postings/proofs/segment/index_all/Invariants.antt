@@ -1,0 +1,7 @@
+use Rattle.std.proofs.Common.{map}
+use Rattle.std.specs.Arc.{arc_value}
+use Rattle.segment_postings.proofs.SegmentLaws.{FieldsUpTo}
+use Rattle.segment_postings.proofs.segment.index_all.Given as goal
+
+abbrev pub invariant-loop-field : goal.invariant-loop-field
+invariant-loop-field l = FieldsUpTo (map arc_value l.docs) l.field (map (λ os. os.items) l.fields.items)

@@ -1,0 +1,6 @@
+pub mod Numbered
+pub mod Postings
+pub mod Terms
+pub mod Segments
+pub mod Views
+pub mod Groups

@@ -1,0 +1,107 @@
+//! Postings, gathered from the occurrences of a key.
+ghost use Rattle.std.specs.Prelude.{◌≡◌, ℕ, ◌+◌, ◌<◌, List, ◌∷◌, ◌++◌, [], IfOk, OnOk, All};
+ghost use Rattle.doc_sets.specs.declared.TheConstants.{MAX_DOCS};
+ghost use Rattle.segment_postings.specs.Groups.{has_places, gathered, gather_one, put_place, told_at};
+
+use crate::occurrence::{Occurrence, Place};
+use crate::posting::{Places, Posting};
+use doc_sets::{DocNo, DocSet};
+use field_schema::{Key, NoMemory};
+use std::alloc::Global;
+
+/// Adds what is told of a key's occurrences in live documents, of which the first has the number `base`, and which
+/// are fewer than `count`. It costs their number.
+pub(crate) fn gather(
+    alloc: Global,
+    found: &mut Vec<Posting>,
+    live: &DocSet,
+    base: DocNo,
+    key: &Key,
+    occurrences: &[Occurrence],
+) -> Result<(), NoMemory>
+    requires { All (λ o. base + o.place.doc < MAX_DOCS) occurrences.now }
+    ensures { OnOk result (found.new.items ≡ gathered live.now base (has_places key.now) found.old.items occurrences.now) }
+{
+    let told = tells_places(key);
+    for occurrence in occurrences {
+        add(alloc, found, live, base, told, occurrence)?;
+    }
+    Ok(())
+}
+
+// Adds what is told of an occurrence, where its document is live.
+fn add(
+    alloc: Global,
+    found: &mut Vec<Posting>,
+    live: &DocSet,
+    base: DocNo,
+    told: bool,
+    occurrence: &Occurrence,
+) -> Result<(), NoMemory>
+    requires { base + occurrence.now.place.doc < MAX_DOCS }
+    ensures { OnOk result (found.new.items ≡ gather_one live.now base told found.old.items occurrence.now) }
+{
+    let number = base + occurrence.place.doc;
+    if !live.has(number) {
+        return Ok(());
+    }
+    put(alloc, found, number, told, occurrence.place)
+}
+
+// Whether places are told of a key.
+fn tells_places(key: &Key) -> bool
+    ensures { result ≡ has_places key.now }
+{
+    matches!(key, Key::Token(_))
+}
+
+// Adds a document, or a place to the last one where that is the same.
+fn put(
+    alloc: Global,
+    found: &mut Vec<Posting>,
+    doc: DocNo,
+    told: bool,
+    place: Place,
+) -> Result<(), NoMemory>
+    ensures { OnOk result (found.new.items ≡ put_place found.old.items doc (told_at told place)) }
+{
+    let posting = open(alloc, found, doc)?;
+    let posting = with_place(posting, told, place)?;
+    found.push(posting)?;
+    Ok(())
+}
+
+// The posting with one more place, where it is told.
+fn with_place(mut posting: Posting, told: bool, place: Place) -> Result<Posting, NoMemory>
+    ensures { IfOk result (λ p. p ≡ record { doc = posting.doc; places = posting.places ++ told_at told place }) }
+{
+    if told {
+        posting.places.push((place.value, place.token))?;
+    }
+    Ok(posting)
+}
+
+// Takes out the last posting where it is of the document, and makes one without places where it is not.
+fn open(alloc: Global, found: &mut Vec<Posting>, doc: DocNo) -> Result<Posting, NoMemory>
+    ensures { IfOk result (λ p. (more : List (ℕ × ℕ)) →
+        put_place found.old.items doc more ≡ found.new.items ++ record { doc = p.doc; places = p.places ++ more } ∷ []) }
+{
+    let Some(last) = found.pop() else {
+        return Ok(empty(alloc, doc));
+    };
+    if last.doc == doc {
+        return Ok(last);
+    }
+    found.push(last)?;
+    Ok(empty(alloc, doc))
+}
+
+// A posting without places.
+fn empty(alloc: Global, doc: DocNo) -> Posting
+    ensures { result ≡ record { doc = doc; places = [] } }
+{
+    Posting {
+        doc,
+        places: Places::new(Vec::new(alloc)),
+    }
+}

@@ -1,0 +1,18 @@
+#![tactic(auto)]
+
+mod gathering;
+mod occurrence;
+mod posting;
+mod probe;
+mod reads;
+mod segment;
+mod terms;
+mod view;
+
+pub use posting::{Counts, Places, Posting};
+pub use probe::Probe;
+pub use reads::Reads;
+pub use view::View;
+
+#[cfg(test)]
+mod tests;

@@ -1,0 +1,294 @@
+ghost use Rattle.std.specs.Prelude.{◌≡◌, ℕ, ◌+◌, ◌<◌, ◌≤◌, ◌++◌, IfOk, OnOk, Some, true, map, length};
+ghost use Rattle.std.specs.Arc.{arc_value};
+ghost use Rattle.std.specs.FinSet as set;
+ghost use Rattle.std.specs.List.{range_with_len};
+ghost use Rattle.doc_sets.specs.declared.TheConstants.{MAX_DOCS};
+ghost use Rattle.segment_postings.specs.Numbered.{IsNumbered, IsLive, no_docs, numbers, docs, extended, doc_at};
+ghost use Rattle.segment_postings.specs.Postings.{postings_of};
+ghost use Rattle.segment_postings.specs.Terms.{AreTerms, terms_from};
+ghost use Rattle.segment_postings.specs.Views.{terms_of, all_docs, AddsNumbers, AddsPart, Merges};
+
+use crate::posting::Posting;
+use crate::segment::Segment;
+use doc_model::Doc;
+use doc_sets::{DocNo, DocSet, MAX_DOCS};
+use field_schema::{FieldNo, Key, NoMemory};
+use std::alloc::Global;
+use std::marker::Model;
+use std::sync::Arc;
+
+/// Segments, and which of their documents are live. Contracts see the live documents in index order, each with its
+/// number, and the size, which is greater than each number; and the keys in each field of each segment.
+///
+/// A view is never changed: others are made of it, and share its segments and documents.
+#[derive(Drop)]
+pub struct View {
+    parts: Vec<Arc<Segment>>,
+    live: DocSet,
+    size: u32,
+}
+
+impl Model for View {
+    ghost use Rattle.std.specs.Prelude.{map};
+    ghost use Rattle.std.specs.Arc.{arc_value};
+    ghost use Rattle.segment_postings.specs.Views.{Indexed, indexed, IsView};
+
+    ghost Value = { Indexed };
+
+    ghost view = { λ v. indexed v.live (map arc_value v.parts.items) };
+
+    ghost invariant = { λ v. IsView v.live v.size (map arc_value v.parts.items) };
+}
+
+impl View {
+    /// The view of no document.
+    pub fn empty(alloc: Global) -> Result<View, NoMemory>
+        ensures seen { IfOk result (λ v. v.seen ≡ no_docs) }
+        ensures segments { IfOk result (λ v. length v.keys ≡ 0) }
+    {
+        Ok(View {
+            parts: Vec::new(alloc),
+            live: DocSet::new(alloc),
+            size: 0,
+        })
+    }
+
+    /// The view without the documents of `deleted`, and with `added` behind them. The size grows by these.
+    ///
+    /// Fails only for want of memory. It costs a pass over the documents added and a sort of their keys, and a step
+    /// for each 64 numbers of the view; no older segment is read.
+    pub fn extend(
+        &self,
+        alloc: Global,
+        added: Vec<Arc<Doc>>,
+        deleted: &DocSet,
+    ) -> Result<View, NoMemory>
+        requires { self.now.seen.size + length added.items ≤ MAX_DOCS }
+        ensures seen { IfOk result (λ v. v.seen ≡ extended self.now.seen deleted.now (map arc_value added.items)) }
+        ensures segments { IfOk result (λ v. length v.keys ≤ length self.now.keys + 1) }
+    {
+        let count = added.len() as u32;
+        let live = next_live(alloc, &self.live, deleted, self.size, count)?;
+        let size = self.size + count;
+        let parts = with_added(alloc, self.parts.as_slice(), added)?;
+        Ok(View { parts, live, size })
+    }
+
+    /// The view with the segments `at` and `at + 1` as one. Its live documents and their order are the same, and its
+    /// size is no greater.
+    ///
+    /// Fails only for want of memory. It costs a pass over the two segments' documents and a sort of their keys, and a
+    /// step for each 64 numbers of the view.
+    pub fn merge(&self, alloc: Global, at: u32) -> Result<View, NoMemory>
+        requires { at + 1 < length self.now.keys }
+        ensures docs { IfOk result (λ v. docs v.seen ≡ docs self.now.seen) }
+        ensures size { IfOk result (λ v. v.seen.size ≤ self.now.seen.size) }
+        ensures segments { IfOk result (λ v. length v.keys < length self.now.keys) }
+    {
+        let live = copy_of(alloc, &self.live)?;
+        let parts = merged(alloc, self.parts.as_slice(), at as usize)?;
+        Ok(View {
+            parts,
+            live,
+            size: self.size,
+        })
+    }
+
+    /// How many live documents there are. It costs nothing.
+    pub fn len(&self) -> u32
+        ensures { result ≡ length self.now.seen.list }
+    {
+        self.live.len()
+    }
+
+    /// The size, which is greater than each number, and at most [`MAX_DOCS`]. It costs nothing.
+    pub fn size(&self) -> u32
+        ensures size { result ≡ self.now.seen.size }
+        ensures most { result ≤ MAX_DOCS }
+    {
+        self.size
+    }
+
+    /// How many segments there are. It costs nothing.
+    pub fn segments(&self) -> u32
+        ensures { result ≡ length self.now.keys }
+    {
+        let parts = self.parts.as_slice();
+        parts.len() as u32
+    }
+
+    // The numbers of the live documents.
+    pub(crate) fn live(&self) -> &DocSet
+        ensures numbers { result.now ≡ set.from_list (numbers self.now.seen) }
+        ensures numbered { IsNumbered self.now.seen }
+        ensures terms { AreTerms self.now.seen (terms_of self.now.keys) }
+    {
+        &self.live
+    }
+
+    // The live documents with a key in a field.
+    pub(crate) fn postings(
+        &self,
+        alloc: Global,
+        field: FieldNo,
+        key: &Key,
+    ) -> Result<Vec<Posting>, NoMemory>
+        ensures { IfOk result (λ p. p.items ≡ postings_of self.now.seen field key.now) }
+    {
+        let mut found = Vec::new(alloc);
+        let mut base = 0;
+        let parts = self.parts.as_slice();
+        for part in parts {
+            part.add_postings(alloc, &mut found, &self.live, base, field, key)?;
+            base += part.docs().len() as u32;
+        }
+        Ok(found)
+    }
+
+    // The first of the field's terms at or after a key.
+    pub(crate) fn terms_from(
+        &self,
+        alloc: Global,
+        field: FieldNo,
+        from: &Key,
+        most: u32,
+    ) -> Result<Vec<Key>, NoMemory>
+        ensures { IfOk result (λ t. t.items ≡ terms_from (terms_of self.now.keys field) from.now most) }
+    {
+        let mut found = Vec::new(alloc);
+        let parts = self.parts.as_slice();
+        for part in parts {
+            part.add_terms(alloc, &mut found, field, from, most as usize)?;
+        }
+        Ok(found)
+    }
+
+    // A live document.
+    pub(crate) fn doc(&self, number: DocNo) -> &Arc<Doc>
+        requires { IsLive self.now.seen number }
+        ensures { doc_at self.now.seen number ≡ Some (arc_value result.now) }
+    {
+        let mut place = number as usize;
+        let parts = self.parts.as_slice();
+        for part in parts {
+            let docs = part.docs();
+            if place < docs.len() {
+                return &docs[place];
+            }
+            place -= docs.len();
+        }
+        unreachable!()
+    }
+}
+
+// The live numbers without those of `deleted`, and with the `count` ones from `size` on.
+fn next_live(
+    alloc: Global,
+    live: &DocSet,
+    deleted: &DocSet,
+    size: u32,
+    count: u32,
+) -> Result<DocSet, NoMemory>
+    requires most { size + count ≤ MAX_DOCS }
+    requires within { (n : ℕ) → set.contains live.now n ≡ true → n < size }
+    ensures { IfOk result (λ s. AddsNumbers live.now deleted.now size count s) }
+{
+    let Ok(kept) = live.minus(alloc, deleted) else {
+        return Err(NoMemory);
+    };
+    let numbers = range(alloc, size, count)?;
+    let Ok(fresh) = DocSet::from_sorted(alloc, numbers.as_slice()) else {
+        return Err(NoMemory);
+    };
+    let Ok(all) = kept.or(alloc, &fresh) else {
+        return Err(NoMemory);
+    };
+    Ok(all)
+}
+
+// The `count` numbers from `first` on.
+fn range(alloc: Global, first: u32, count: u32) -> Result<Vec<u32>, NoMemory>
+    requires { first + count ≤ MAX_DOCS }
+    ensures { IfOk result (λ v. v.items ≡ range_with_len first count) }
+{
+    let mut numbers = Vec::with_capacity(alloc, count as usize)?;
+    for i in 0..count {
+        numbers.push(first + i)?;
+    }
+    Ok(numbers)
+}
+
+// The same segments, shared, and one of the added documents where there are any.
+fn with_added(
+    alloc: Global,
+    parts: &[Arc<Segment>],
+    added: Vec<Arc<Doc>>,
+) -> Result<Vec<Arc<Segment>>, NoMemory>
+    requires { length added.items ≤ MAX_DOCS }
+    ensures { IfOk result (λ v. AddsPart (map arc_value parts.now) (map arc_value added.items) (map arc_value v.items)) }
+{
+    let mut all = shared(alloc, parts)?;
+    if added.is_empty() {
+        return Ok(all);
+    }
+    let part = Segment::new(alloc, added)?;
+    all.push(Arc::new(alloc, part)?)?;
+    Ok(all)
+}
+
+// The same set.
+fn copy_of(alloc: Global, set: &DocSet) -> Result<DocSet, NoMemory>
+    ensures { IfOk result (λ s. s ≡ set.now) }
+{
+    let Ok(copy) = set.or(alloc, &DocSet::new(alloc)) else {
+        return Err(NoMemory);
+    };
+    Ok(copy)
+}
+
+// The same segments, two neighbours as one.
+fn merged(alloc: Global, parts: &[Arc<Segment>], at: usize) -> Result<Vec<Arc<Segment>>, NoMemory>
+    requires both { at + 1 < length parts.now }
+    requires most { length (all_docs (map arc_value parts.now)) ≤ MAX_DOCS }
+    ensures { IfOk result (λ v. Merges (map arc_value parts.now) (map arc_value v.items)) }
+{
+    let first = &parts[at];
+    let second = &parts[at + 1];
+    let docs = both(alloc, first.docs(), second.docs())?;
+    let part = Segment::new(alloc, docs)?;
+    let mut all = shared(alloc, &parts[..at])?;
+    all.push(Arc::new(alloc, part)?)?;
+    share(&mut all, &parts[at + 2..])?;
+    Ok(all)
+}
+
+// The documents of two lists, shared.
+fn both(alloc: Global, first: &[Arc<Doc>], second: &[Arc<Doc>]) -> Result<Vec<Arc<Doc>>, NoMemory>
+    ensures { IfOk result (λ v. map arc_value v.items ≡ map arc_value first.now ++ map arc_value second.now) }
+{
+    let mut all = Vec::new(alloc);
+    share(&mut all, first)?;
+    share(&mut all, second)?;
+    Ok(all)
+}
+
+// Adds shared values behind others.
+fn share<T: Drop>(all: &mut Vec<Arc<T>>, more: &[Arc<T>]) -> Result<(), NoMemory>
+    ensures { OnOk result (map arc_value all.new.items ≡ map arc_value all.old.items ++ map arc_value more.now) }
+{
+    for one in more {
+        all.push(Arc::clone(one)?)?;
+    }
+    Ok(())
+}
+
+// The same segments, shared.
+fn shared(alloc: Global, parts: &[Arc<Segment>]) -> Result<Vec<Arc<Segment>>, NoMemory>
+    ensures { IfOk result (λ v. map arc_value v.items ≡ map arc_value parts.now) }
+{
+    let mut shared = Vec::with_capacity(alloc, parts.len())?;
+    for part in parts {
+        shared.push(Arc::clone(part)?)?;
+    }
+    Ok(shared)
+}
