@@ -10,13 +10,14 @@ use Rattle.std.proofs.lemmas.Option.{same_Some, none-some}
 use Rattle.script_form.specs.declared.script.Line.{Line}
 use Rattle.script_form.specs.declared.script.What.{What}
 use Rattle.script_form.specs.declared.script.What.TheVariants as what
-use Rattle.script_form.specs.Ranges as ranges
+use Rattle.script_form.specs.Ranges.{HasClient}
+use Rattle.client_runner.proofs.Clients.{are_few}
 use Rattle.run_laws.specs.Rows.{add, delete, query, commit}
 use Rattle.run_laws.specs.Calls.{Call, call_as, phase_behind, calls_from, calls_of}
 use Rattle.run_laws.specs.Lawful.{Ascends}
 use Rattle.run_history.specs.Agreement.{ComesBefore}
 use Rattle.run_history.proofs.Elements.{all_append, all_map}
-use Rattle.client_runner.specs.RunOrder.{HasClient, key_of, turn_of, turns_from, call_at, nobody}
+use Rattle.client_runner.specs.RunOrder.{key_of, turn_of, turns_from, call_at, nobody}
 use Rattle.client_runner.specs.declared.order.Turn.{Turn}
 
 -- ---- lines
@@ -118,28 +119,28 @@ asks script phase index client line call at place called same_phase same_line sa
     is = ap (λ (o : Option Line). Rattle.std.specs.Prelude.unwrap_or (option_and_then (λ (l : Line). call_as phase l.number l.what) o) nobody) at ∙ ap (λ (o : Option Call). Rattle.std.specs.Prelude.unwrap_or o nobody) called
 
 -- the turn of one line, if it asks for something
-one_turn : (script : List Line) (phase index : ℕ) (line : Line) (w : What) → line.what ≡ w → slice_get script index ≡ Some line → phase ≡ phase_at 0 script index → HasClient w
+one_turn : (script : List Line) (phase index : ℕ) (line : Line) (w : What) → line.what ≡ w → slice_get script index ≡ Some line → phase ≡ phase_at 0 script index → HasClient 12 w
     → (map (call_at script) (option_to_list (turn_of phase index w)) ≡ option_to_list (call_as phase line.number w)) × AllByRecursion (IsTurn script) (option_to_list (turn_of phase index w))
 one_turn script phase index line (what.Add client body) is at place has =
     let call : Call = record { phase = phase; client = client; line = line.number; verb = add; body = body } in
-    let one = asks script phase index client line call at place (ap (call_as phase line.number) is) refl refl refl has in
+    let one = asks script phase index client line call at place (ap (call_as phase line.number) is) refl refl refl (are_few (what.Add client body) has) in
     (ap (λ (q : Call). q ∷ []) one.0, (one.1, tt))
 one_turn script phase index line (what.Delete client body) is at place has =
     let call : Call = record { phase = phase; client = client; line = line.number; verb = delete; body = body } in
-    let one = asks script phase index client line call at place (ap (call_as phase line.number) is) refl refl refl has in
+    let one = asks script phase index client line call at place (ap (call_as phase line.number) is) refl refl refl (are_few (what.Delete client body) has) in
     (ap (λ (q : Call). q ∷ []) one.0, (one.1, tt))
 one_turn script phase index line (what.Query client body) is at place has =
     let call : Call = record { phase = phase; client = client; line = line.number; verb = query; body = body } in
-    let one = asks script phase index client line call at place (ap (call_as phase line.number) is) refl refl refl has in
+    let one = asks script phase index client line call at place (ap (call_as phase line.number) is) refl refl refl (are_few (what.Query client body) has) in
     (ap (λ (q : Call). q ∷ []) one.0, (one.1, tt))
 one_turn script phase index line (what.Commit client body) is at place has =
     let call : Call = record { phase = phase; client = client; line = line.number; verb = commit; body = body } in
-    let one = asks script phase index client line call at place (ap (call_as phase line.number) is) refl refl refl has in
+    let one = asks script phase index client line call at place (ap (call_as phase line.number) is) refl refl refl (are_few (what.Commit client body) has) in
     (ap (λ (q : Call). q ∷ []) one.0, (one.1, tt))
 one_turn script phase index line what.PhaseEnd is at place has = (refl, tt)
 one_turn script phase index line what.Nothing is at place has = (refl, tt)
 
-turns_are : (script : List Line) (phase index : ℕ) (lines : List Line) → AreFrom script phase index lines → AllByRecursion (λ line. HasClient line.what) lines
+turns_are : (script : List Line) (phase index : ℕ) (lines : List Line) → AreFrom script phase index lines → AllByRecursion (λ line. HasClient 12 line.what) lines
     → (map (call_at script) (turns_from phase index lines) ≡ calls_from phase lines) × AllByRecursion (IsTurn script) (turns_from phase index lines)
 turns_are script phase index [] from has = (refl, tt)
 turns_are script phase index (line ∷ lines) from has =
@@ -158,14 +159,14 @@ all_from_start script = record {
 }
 
 -- the turns of a script are those of its requests, in its order
-pub turns_of_calls : (script : List Line) → All (λ line. HasClient line.what) script → map (call_at script) (turns_from 0 0 script) ≡ calls_of script
-turns_of_calls script has = (turns_are script 0 0 script (all_from_start script) (recursion_from_All (λ line. HasClient line.what) script has)).0
+pub turns_of_calls : (script : List Line) → All (λ line. HasClient 12 line.what) script → map (call_at script) (turns_from 0 0 script) ≡ calls_of script
+turns_of_calls script has = (turns_are script 0 0 script (all_from_start script) (recursion_from_All (λ line. HasClient 12 line.what) script has)).0
 
 -- and in any order each is a turn
-pub all_are_turns : (script : List Line) (served : List Turn) → All (λ line. HasClient line.what) script → IsPermutation (turns_from 0 0 script) served → All (IsTurn script) served
+pub all_are_turns : (script : List Line) (served : List Turn) → All (λ line. HasClient 12 line.what) script → IsPermutation (turns_from 0 0 script) served → All (IsTurn script) served
 all_are_turns script served has moved =
     All-permutation (IsTurn script) (turns_from 0 0 script) served moved
-    (All-from_recursion (IsTurn script) (turns_from 0 0 script) (turns_are script 0 0 script (all_from_start script) (recursion_from_All (λ line. HasClient line.what) script has)).1)
+    (All-from_recursion (IsTurn script) (turns_from 0 0 script) (turns_are script 0 0 script (all_from_start script) (recursion_from_All (λ line. HasClient 12 line.what) script has)).1)
 
 -- ---- how many
 
@@ -255,18 +256,6 @@ comes_last script served i d short numbers are up l =
     same : (k : ℕ) (e f : Turn) → k < length served → get_or served k f ≡ get_or served k e
     same k e f below = same_read served k f e below
 
--- the clients of a script that is read are few
-pub few_clients : (script : List Line) → All (λ line. ranges.HasClient 12 line.what) script → All (λ line. HasClient line.what) script
-few_clients script has = All-weaker (λ (line : Line). ranges.HasClient 12 line.what) (λ (line : Line). HasClient line.what) (λ line h. few line.what h) script has
-  where
-    few : (w : What) → ranges.HasClient 12 w → HasClient w
-    few (what.Add client body) h = omega (arith, h.0, h.1)
-    few (what.Delete client body) h = omega (arith, h.0, h.1)
-    few (what.Query client body) h = omega (arith, h.0, h.1)
-    few (what.Commit client body) h = omega (arith, h.0, h.1)
-    few what.PhaseEnd h = tt
-    few what.Nothing h = tt
-
 -- ---- the turns as they are served
 
 pub record AreServed (script : List Line) (served : List Turn) : Type 0 where
@@ -275,16 +264,15 @@ pub record AreServed (script : List Line) (served : List Turn) : Type 0 where
   pub few : length served ≤ 100000
   pub calls : IsPermutation (calls_of script) (map (call_at script) served)
 
-pub are_served : (script got : List Line) (items served : List Turn) → got ≡ script → served ≡ items → length script ≤ 100000 → All (λ line. ranges.HasClient 12 line.what) script
+pub are_served : (script got : List Line) (items served : List Turn) → got ≡ script → served ≡ items → length script ≤ 100000 → All (λ line. HasClient 12 line.what) script
     → IsPermutation (turns_from 0 0 got) items → IsNonDecreasingBy (λ t. t.key) items → AreServed script served
 are_served script got items served same_script same_items short clients moved up =
-    let has : All (λ (line : Line). HasClient line.what) script = few_clients script clients in
     let moved_here : IsPermutation (turns_from 0 0 script) items = subst (λ lines. IsPermutation (turns_from 0 0 lines) items) same_script moved in
     let all : IsPermutation (turns_from 0 0 script) served = subst (IsPermutation (turns_from 0 0 script)) (sym same_items) moved_here in
     let no_more : length served ≤ length script = no_more_turns script served all in
     record {
-      turns = all_are_turns script served has all;
+      turns = all_are_turns script served clients all;
       rising = subst (IsNonDecreasingBy (λ (t : Turn). t.key)) (sym same_items) up;
       few = omega (arith, no_more, short);
-      calls = subst (λ qs. IsPermutation qs (map (call_at script) served)) (turns_of_calls script has) (IsPermutation-map (call_at script) (turns_from 0 0 script) served all);
+      calls = subst (λ qs. IsPermutation qs (map (call_at script) served)) (turns_of_calls script clients) (IsPermutation-map (call_at script) (turns_from 0 0 script) served all);
     }

@@ -1,3 +1,4 @@
+pub mod Clients
 pub mod Slots
 pub mod Seen
 pub mod Words

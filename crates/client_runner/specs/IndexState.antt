@@ -1,5 +1,5 @@
 -- What contracts see of an index, and how its slots hold the documents.
-use Rattle.std.specs.Prelude.{◌≡◌, ◌≤◌, ◌<◌, ◌&&◌, ℕ, Bool, true, cond, nat_le, is_none, List, Option, Some, None, IfSome, IsSomeAnd, length, map, option_map, option_and_then, slice_get, slice_set}
+use Rattle.std.specs.Prelude.{◌≡◌, ◌≤◌, ◌<◌, ◌&&◌, ℕ, Bool, true, cond, nat_le, is_none, List, filter, Option, Some, None, IfSome, IsSomeAnd, length, map, option_map, option_and_then, slice_get, slice_set}
 use Rattle.std.specs.Option.{option_map_or}
 use Rattle.std.specs.List.{filter_map, All}
 use Rattle.std.specs.Arc.{arc_value}
@@ -73,6 +73,10 @@ pub record IsIndexed (slots : List Slot) (places : BTreeMap (List ℕ) ℕ) (n :
 -- the document in a slot
 abbrev pub doc_in : Slot → Document
 doc_in s = arc_value s.doc
+
+-- the documents that have a word in a field
+abbrev pub hits : List Document → ℕ → List ℕ → List Document
+hits docs field word = filter (λ d. top d.values (Term field (key.Str word))) docs
 
 -- a searcher sees it that was opened when there were so many slots, and it has a word in a field
 abbrev pub is_hit : ℕ → ℕ → List ℕ → Slot → Bool

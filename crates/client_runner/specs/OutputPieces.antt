@@ -1,10 +1,15 @@
 -- The lines of the output, piece by piece.
 use Rattle.std.specs.Prelude.{◌≡◌, ℕ, List, [], ◌++◌, Bool, true, false, not, Option, Some, None, codes, decimal}
+use Rattle.std.specs.List.{flat_map}
 use Rattle.run_laws.specs.Rows.{RequestRow, SearcherRow}
 
 -- the text has grown by a piece
 pub record Grows (old new piece : List ℕ) : Type 0 where
   pub is : new ≡ old ++ piece
+
+-- the lines of rows, of each what it is seen as
+abbrev pub lines_of : {A R : Type 0} → (A → R) → (R → List ℕ) → List A → List ℕ
+lines_of seen line rows = flat_map (λ r. line (seen r)) rows
 
 -- a piece with a number, where there is one
 abbrev pub optional_piece : List ℕ → Option ℕ → List ℕ

@@ -29,10 +29,6 @@ turns_from phase index [] = []
 turns_from phase index (line ∷ lines) =
     option_to_list (turn_of phase index line.what) ++ turns_from (phase_behind phase line.what) (index + 1) lines
 
--- a line that asks for something is that of a client with a small number
-abbrev pub HasClient : What → Type 0
-HasClient w = IfSome (client_of w) (λ client. client < 16)
-
 -- a request that nobody made
 abbrev pub nobody : Call
 nobody = record { phase = 0; client = 0; line = 0; verb = add; body = [] }

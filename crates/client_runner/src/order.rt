@@ -3,7 +3,8 @@ ghost use Rattle.std.specs.Option.{option_to_list};
 ghost use Rattle.run_laws.specs.Calls.{phase_behind as next_phase};
 ghost use Rattle.std.specs.List.{All};
 ghost use Rattle.std.specs.List.Sorted.{IsNonDecreasingBy, IsPermutation};
-ghost use Rattle.client_runner.specs.RunOrder.{HasClient, client_of as named_client, key_of as rising_key, turn_of, turns_from};
+ghost use Rattle.script_form.specs.Ranges.{HasClient};
+ghost use Rattle.client_runner.specs.RunOrder.{client_of as named_client, key_of as rising_key, turn_of, turns_from};
 
 use field_schema::NoMemory;
 use script_form::{Line, What};
@@ -21,7 +22,7 @@ pub(crate) struct Turn {
 // and each client's lines in turn.
 pub(crate) fn turns(alloc: Global, script: &[Line]) -> Result<Vec<Turn>, NoMemory>
     requires lines { length script.now ≤ 100000 }
-    requires clients { All (λ line. HasClient line.what) script.now }
+    requires clients { All (λ line. HasClient 12 line.what) script.now }
     ensures same { IfOk result (λ v. IsPermutation (turns_from 0 0 script.now) v.items) }
     ensures rising { IfOk result (λ v. IsNonDecreasingBy (λ t. t.key) v.items) }
 {
@@ -33,7 +34,7 @@ pub(crate) fn turns(alloc: Global, script: &[Line]) -> Result<Vec<Turn>, NoMemor
 // The requests of a script in its order.
 fn listed(alloc: Global, script: &[Line]) -> Result<Vec<Turn>, NoMemory>
     requires lines { length script.now ≤ 100000 }
-    requires clients { All (λ line. HasClient line.what) script.now }
+    requires clients { All (λ line. HasClient 12 line.what) script.now }
     ensures { IfOk result (λ v. v.items ≡ turns_from 0 0 script.now) }
 {
     let mut turns = Vec::with_capacity(alloc, script.len())?;
@@ -46,9 +47,10 @@ fn listed(alloc: Global, script: &[Line]) -> Result<Vec<Turn>, NoMemory>
 }
 
 // Adds the turn of a line, if it asks for something.
+#[tactic(auto, using(crate::proofs::Clients::are_few))]
 fn push_turn(turns: &mut Vec<Turn>, phase: u32, index: u32, what: &What) -> Result<(), NoMemory>
     requires phase { phase ≤ 100000 }
-    requires client { HasClient what.now }
+    requires client { HasClient 12 what.now }
     ensures { OnOk result (turns.new.items ≡ turns.old.items ++ option_to_list (turn_of phase index what.now)) }
 {
     if let Some(client) = client_of(what) {

@@ -1,8 +1,7 @@
 ghost use Rattle.std.specs.Prelude.{◌≡◌, IfOk, OnOk, Some, string_bytes};
-ghost use Rattle.std.specs.List.{flat_map};
 ghost use Rattle.std.specs.Option.{option_map};
 ghost use Rattle.run_laws.specs.OutputText.{output_text as text_of_output};
-ghost use Rattle.client_runner.specs.OutputPieces.{Grows, end_piece, from_piece, number_piece, optional_piece, request_line, searcher_line};
+ghost use Rattle.client_runner.specs.OutputPieces.{Grows, end_piece, from_piece, lines_of, number_piece, optional_piece, request_line, searcher_line};
 ghost use Rattle.client_runner.specs.Outputs.{output_view};
 ghost use Rattle.client_runner.specs.Views.{request_view, searcher_view};
 
@@ -119,7 +118,7 @@ fn put_searcher(out: &mut String, row: &SearcherRow) -> Result<(), NoMemory>
 
 // Writes the lines of requests.
 fn put_requests(out: &mut String, rows: &[RequestRow]) -> Result<(), NoMemory>
-    ensures { OnOk result (Grows (string_bytes out.old) (string_bytes out.new) (flat_map (λ r. request_line (request_view r)) rows.now)) }
+    ensures { OnOk result (Grows (string_bytes out.old) (string_bytes out.new) (lines_of request_view request_line rows.now)) }
 {
     for row in rows {
         put_request(out, row)?;
@@ -129,7 +128,7 @@ fn put_requests(out: &mut String, rows: &[RequestRow]) -> Result<(), NoMemory>
 
 // Writes the lines of searchers.
 fn put_searchers(out: &mut String, rows: &[SearcherRow]) -> Result<(), NoMemory>
-    ensures { OnOk result (Grows (string_bytes out.old) (string_bytes out.new) (flat_map (λ r. searcher_line (searcher_view r)) rows.now)) }
+    ensures { OnOk result (Grows (string_bytes out.old) (string_bytes out.new) (lines_of searcher_view searcher_line rows.now)) }
 {
     for row in rows {
         put_searcher(out, row)?;

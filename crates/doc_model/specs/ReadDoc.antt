@@ -115,9 +115,13 @@ abbrev pub has_no_value : Data → Bool
 has_no_value (array ds) = list_all is_null (listed ds)
 has_no_value d = is_null d
 
--- the member of the unique key is absent or has no value
+-- the member of a field is absent or has no value, or there is no field
+abbrev pub lacks_value : Option Field → Members → Bool
+lacks_value field ms = option_map_or (λ f. option_map_or has_no_value (get_member f.name ms) true) field true
+
+-- so it is with the member of the unique key
 abbrev pub lacks_id : Fields → Members → Bool
-lacks_id s ms = option_map_or (λ f. option_map_or has_no_value (get_member f.name ms) true) (slice_get s.list s.key) true
+lacks_id s ms = lacks_value (slice_get s.list s.key) ms
 
 -- the values of a field: those of its member
 abbrev pub values_of : Members → Field → List Key

@@ -8,7 +8,7 @@ ghost use Rattle.serde_json.specs.Find.{get_member, as_object};
 ghost use Rattle.serde_json.specs.Read.{read as read_text};
 ghost use Rattle.serde_json.specs.View.{view, members_view};
 ghost use Rattle.field_schema.specs.Schema.{field_named};
-ghost use Rattle.doc_model.specs.ReadDoc.{is_no_memory, member_values as values_of_member, too_long as first_too_long, values_fault, member_fault, has_no_value as has_nothing, lacks_id as lacks_an_id, values_of, object_doc};
+ghost use Rattle.doc_model.specs.ReadDoc.{is_no_memory, member_values as values_of_member, too_long as first_too_long, values_fault, member_fault, has_no_value as has_nothing, lacks_id as lacks_an_id, lacks_value, values_of, object_doc};
 ghost use Rattle.field_schema.specs.Outcome.{Gives, GivesAs};
 ghost use Rattle.doc_model.specs.Readers.{object_of, member_or_fault, values_or_fault};
 ghost use Rattle.doc_model.specs.Document.{IsIdAt, with_id, str_text};
@@ -90,7 +90,7 @@ fn no_values(alloc: Global, schema: &Schema) -> Result<Vec<Vec<Key>>, NoMemory>
 
 // Whether the key's member is absent or has no value.
 fn lacks_id(key: Option<&Field>, members: &Map<String, Value>) -> bool
-    ensures { result ≡ option_map_or (λ f. option_map_or has_nothing (get_member f.name (members_view members.now.entries)) true) (option_copied key.entry) true }
+    ensures { result ≡ lacks_value (option_copied key.entry) (members_view members.now.entries) }
 {
     let Some(key) = key else {
         return true;

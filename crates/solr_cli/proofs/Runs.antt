@@ -22,11 +22,11 @@ is_all xs ys bytes h end w = all_taken xs ys bytes h (end (within_input bytes w)
 
 run_of : (xs ys bytes : List ℕ) (p : Output × Text) → Consumes (Some xs) (Some ys) bytes → (length bytes ≤ most_input → IsAtEnd (Some ys))
     → IsAnswer bytes (output_view p.0) p.1 → IsRunFrom xs (Some ys) p.0
-run_of xs ys bytes p h end (config, script, reads, lawful, text) =
+run_of xs ys bytes p h end (config, script, reads, history, lawful, text) =
     let all = is_all xs ys bytes h end reads.within in
     record {
       ended = ap (λ t. Some t) (end (within_input bytes reads.within));
-      ran = (config, script, record { reads = subst (λ t. ReadsTo t config script) all reads; lawful = lawful });
+      ran = (config, script, record { reads = subst (λ t. ReadsTo t config script) all reads; history = history; lawful = lawful });
     }
 
 pub ran_over : (old new : Option (List ℕ)) (bytes : List ℕ) (r : Result (Output × Text) Status) → Consumes old new bytes → (length bytes ≤ most_input → IsAtEnd new)

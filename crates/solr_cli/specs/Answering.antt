@@ -11,6 +11,7 @@ use Rattle.script_form.specs.declared.config.ConfigRefusal.TheVariants as config
 use Rattle.run_laws.specs.Rows.{Output}
 use Rattle.run_laws.specs.Lawful.{Lawful}
 use Rattle.run_laws.specs.OutputText.{output_text}
+use Rattle.client_runner.specs.Histories.{GoesByHistory}
 use Rattle.solr_cli.specs.BuiltForms.{built_script}
 use Rattle.solr_cli.specs.declared.status.Status.{Status}
 use Rattle.solr_cli.specs.declared.status.Status.TheVariants as status
@@ -40,7 +41,8 @@ IsRefusal input status.TooLarge = too_large input ≡ true
 IsRefusal input status.NoMemory = ⊤
 IsRefusal input _ = ⊥
 
--- the input reads, its output is lawful, and this is the output's text
+-- the input reads, its output goes by a legal history and is lawful, and this is the output's text
 abbrev pub IsAnswer : List ℕ → Output → List ℕ → Type 0
 IsAnswer input output text =
-    (config : Config) × (script : List Line) × ReadsTo input config script × Lawful config script output × (text ≡ output_text output)
+    (config : Config) × (script : List Line) × ReadsTo input config script
+    × GoesByHistory config script output × Lawful config script output × (text ≡ output_text output)

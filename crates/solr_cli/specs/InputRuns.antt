@@ -1,5 +1,6 @@
 -- What running an input gives, below the top call.
-use Rattle.std.specs.Prelude.{◌≡◌, ℕ, List, [], Option, Some, Result, Ok, Err, ⊤}
+use Rattle.std.specs.Prelude.{◌≡◌, ℕ, List, [], Option, Some, IfSome, Result, Ok, Err, IfOk, ⊤}
+use Rattle.field_schema.specs.declared.text.Text.{Text}
 use Rattle.script_form.specs.declared.config.Config.{Config}
 use Rattle.script_form.specs.declared.script.Line.{Line}
 use Rattle.client_runner.specs.declared.rows.Output.{Output}
@@ -29,3 +30,7 @@ Refuses _ = ⊤
 pub record IsRunFrom (input : List ℕ) (left : Option (List ℕ)) (output : Output) : Type 0 where
   pub ended : left ≡ Some []
   pub ran : (config : Config) × (script : List Line) × RunsTo input config script output
+
+-- the same where the source tells its bytes and the input was run
+abbrev pub RanFrom : Option (List ℕ) → Option (List ℕ) → Result (Output × Text) Status → Type 0
+RanFrom before after result = IfSome before (λ input. IfOk result (λ r. IsRunFrom input after r.0))

@@ -1,11 +1,9 @@
 ghost use Rattle.std.specs.Prelude.{◌≡◌, ◌↔◌, false, true, IfOk, IfErr, IfSome, map, string_bytes};
-ghost use Rattle.rt_edge.specs.Faults.{Rose};
-ghost use Rattle.rt_edge.specs.Flushes.{IsTold};
 ghost use Rattle.run_laws.specs.OutputText.{output_text};
 ghost use Rattle.client_runner.specs.Outputs.{output_view};
 ghost use Rattle.solr_cli.specs.declared.status.Status.TheVariants as Status;
-ghost use Rattle.solr_cli.specs.InputRuns.{IsReadRefusal, IsRunFrom, Refuses, TellsReads};
-ghost use Rattle.solr_cli.specs.Top.{Completes, CountsReads, CountsWrites, IsExplained, WhereQuiet, Writes, is_run};
+ghost use Rattle.solr_cli.specs.InputRuns.{IsReadRefusal, RanFrom, Refuses, TellsReads};
+ghost use Rattle.solr_cli.specs.Top.{Completes, CountsReads, CountsWrites, IsExplained, IsFlushed, IsSteady, WhereQuiet, Writes, is_run};
 
 use crate::answer::answer;
 use crate::reading::{ReadRefusal, read_all};
@@ -42,7 +40,7 @@ fn run_input<S: Source, G: Gate>(
 ) -> Result<(Output, Text), Status>
     ensures reads { TellsReads (S.faults input.old) (S.faults input.new) result }
     ensures text { IfOk result (λ r. r.1 ≡ output_text (output_view r.0)) }
-    ensures ran { IfSome (S.left input.old) (λ bytes. IfOk result (λ r. IsRunFrom bytes (S.left input.new) r.0)) }
+    ensures ran { RanFrom (S.left input.old) (S.left input.new) result }
     ensures refuses { IfErr result Refuses }
     ensures refused { IfSome (S.left input.old) (λ bytes. IfErr result (IsReadRefusal bytes)) }
 {
@@ -78,15 +76,17 @@ pub fn run_top<S: Source, K: Sink, G: Gate>(
     // What is written is the text of the output that is handed back, or a front of it; else nothing is.
     ensures quiet { WhereQuiet result.status (out.new ≡ out.old) }
     ensures writes { Writes result.status result.output (K.held out.old) (K.held out.new) }
-    ensures flushed { result.status ≡ Status.Done → IsTold (K.flushed out.old) (K.flushed out.new) true }
+    ensures flushed { result.status ≡ Status.Done → IsFlushed (K.flushed out.old) (K.flushed out.new) }
 
-    // Where the source tells its bytes, they explain the status: the run of an input that reads is lawful.
-    ensures explained { IfSome (S.left input.old) (λ bytes. IsExplained bytes (S.left input.new) result.status result.output) }
+    // Where the source tells its bytes, they explain the status: the run of an input that reads goes by one legal
+    // history of the registry, and is lawful.
+    ensures explained { IsExplained (S.left input.old) (S.left input.new) result.status result.output }
 
     // An input that reads is run, unless memory was wanting or the outside failed.
-    ensures completes { IfSome (S.left input.old) (λ bytes. is_run (map string_bytes words.now) ≡ true
-        → (Rose (S.faults input.old) (S.faults input.new) → ⊥) → (Rose (K.faults out.old) (K.faults out.new) → ⊥)
-        → Completes result.status bytes) }
+    ensures completes { is_run (map string_bytes words.now) ≡ true
+        → IsSteady (S.faults input.old) (S.faults input.new)
+        → IsSteady (K.faults out.old) (K.faults out.new)
+        → IfSome (S.left input.old) (Completes result.status) }
 {
     if !are_run(words) {
         return Ran {

@@ -1,9 +1,6 @@
-ghost use Rattle.std.specs.Prelude.{◌≡◌, ◌≤◌, IfOk, map, length, take, filter};
+ghost use Rattle.std.specs.Prelude.{◌≡◌, ◌≤◌, IfOk, map, length, take};
 ghost use Rattle.std.specs.Arc.{arc_value};
-ghost use Rattle.field_schema.specs.declared.key.Key.TheVariants as Key;
-ghost use Rattle.query_tree.specs.declared.query.Query.{Term};
-ghost use Rattle.query_tree.specs.Matches.{top};
-ghost use Rattle.client_runner.specs.IndexState.{is_hit};
+ghost use Rattle.client_runner.specs.IndexState.{hits, is_hit};
 
 use crate::index::{Index, Slot};
 use crate::search::has_word;
@@ -31,9 +28,9 @@ impl Index {
         word: &str,
         most: u32,
     ) -> Result<(Vec<Arc<Doc>>, usize), NoMemory>
-        ensures found { IfOk result (λ r. r.1 ≡ length (filter (λ d. top d.values (Term field (Key.Str word.now))) self.now.served)) }
+        ensures found { IfOk result (λ r. r.1 ≡ length (hits self.now.served field word.now)) }
         ensures within { IfOk result (λ r. r.1 ≤ length self.now.served) }
-        ensures docs { IfOk result (λ r. map arc_value r.0.items ≡ take most (filter (λ d. top d.values (Term field (Key.Str word.now))) self.now.served)) }
+        ensures docs { IfOk result (λ r. map arc_value r.0.items ≡ take most (hits self.now.served field word.now)) }
     {
         let mut first = Vec::new(alloc);
         let mut found = 0;
