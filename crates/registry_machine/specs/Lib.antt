@@ -4,4 +4,5 @@ pub mod Machine
 pub mod Legal
 pub mod Places
 pub mod Callers
+pub mod Laws
 pub mod Trials

@@ -12,6 +12,13 @@ Call = Entry ℕ ℕ ℕ
 abbrev pub small : Limits
 small = record { max_warming = 2; slots = 3; first_generation = 1; last_generation = 3 }
 
+-- the same, but one may be warming, or there is one generation
+abbrev pub room_for_one : Limits
+room_for_one = record small { max_warming = 1 }
+
+abbrev pub one_generation : Limits
+one_generation = record small { last_generation = 1 }
+
 -- caller 1 opens a generation in a slot
 abbrev pub open_in : ℕ → ℕ → Call
 open_in g slot = Open 1 0 g slot 0
@@ -38,6 +45,10 @@ one_current = open_in 1 0 ∷ finish 1 ∷ []
 -- generation 2 is current, and generation 1 was before
 abbrev pub two_current : List Call
 two_current = one_current ++ open_in 2 1 ∷ finish 2 ∷ []
+
+-- generation 1 is current, and generation 2 is warming
+abbrev pub one_warming : List Call
+one_warming = one_current ++ open_in 2 1 ∷ []
 
 -- generation 1 is current, and generations 2 and 3 are warming
 abbrev pub two_warming : List Call

@@ -4,25 +4,25 @@
 ghost use Rattle.std.specs.Prelude.{◌≡◌, ◌∷◌, ◌++◌, [], Some, None};
 ghost use Rattle.registry_machine.specs.declared.entry.Entry.TheVariants.{GenerationsSpent, Update, NotYet, Free};
 ghost use Rattle.registry_machine.specs.Legal.{Legal, state_of};
-ghost use Rattle.registry_machine.specs.Trials.{Call, small, open_in, finish, superseded, acquire, release, too_many, one_current, two_current, two_warming, overtaken, one_pinned, old_pinned};
+ghost use Rattle.registry_machine.specs.Trials.{small, room_for_one, one_generation, open_in, finish, superseded, acquire, release, too_many, one_current, one_warming, two_current, two_warming, overtaken, one_pinned, old_pinned};
 
 /// An opening wants the next generation, a slot of its own, and room.
 pub fn openings_are_tried()
-    ensures legal { Legal small (one_current ++ open_in 2 1 ∷ []) }
+    ensures legal { Legal small one_warming }
     ensures reopened { Legal small (one_current ++ open_in 2 0 ∷ []) → ⊥ }
     ensures pinned_slot { Legal small (old_pinned ++ open_in 3 0 ∷ []) → ⊥ }
     ensures freed_slot { Legal small (two_current ++ Free 1 ∷ open_in 3 0 ∷ []) }
     ensures no_slot { Legal small (one_current ++ open_in 2 3 ∷ []) → ⊥ }
     ensures skipped { Legal small (one_current ++ open_in 3 1 ∷ []) → ⊥ }
     ensures again { Legal small (one_current ++ open_in 1 1 ∷ []) → ⊥ }
-    ensures crowded { Legal (record small { max_warming = 1 }) (one_current ++ open_in 2 1 ∷ open_in 3 2 ∷ []) → ⊥ }
-    ensures beyond { Legal (record small { last_generation = 1 }) (one_current ++ open_in 2 1 ∷ []) → ⊥ }
+    ensures crowded { Legal room_for_one two_warming → ⊥ }
+    ensures beyond { Legal one_generation one_warming → ⊥ }
 {}
 
 /// An opening is refused as too many where as many are warming as may be, and these are told.
 pub fn refusals_are_tried()
     ensures legal { Legal small (two_warming ++ too_many (2 ∷ 3 ∷ []) ∷ []) }
-    ensures one_less { Legal small (one_current ++ open_in 2 1 ∷ too_many (2 ∷ []) ∷ []) → ⊥ }
+    ensures one_less { Legal small (one_warming ++ too_many (2 ∷ []) ∷ []) → ⊥ }
     ensures untold { Legal small (two_warming ++ too_many (2 ∷ []) ∷ []) → ⊥ }
     ensures descending { Legal small (two_warming ++ too_many (3 ∷ 2 ∷ []) ∷ []) → ⊥ }
 {}
