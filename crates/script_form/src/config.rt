@@ -1,8 +1,7 @@
 ghost use Rattle.std.specs.Prelude.{◌≡◌, ◌≤◌, length, drop, Err, IfOk, MatchResult, ok_or, option_map, ⊤};
-ghost use Rattle.std.specs.Str.Lines.{lines};
 ghost use Rattle.serde_json.specs.View.{view};
 ghost use Rattle.field_schema.specs.Outcome.{Gives};
-ghost use Rattle.script_form.specs.Lines.{config_text, script_lines};
+ghost use Rattle.script_form.specs.Lines.{config_text, IsScriptOf};
 ghost use Rattle.script_form.specs.Ranges.{IsConfig};
 ghost use Rattle.script_form.specs.ReadConfig.{config_in, config_of, failed, is_no_memory, object_in, text_config, value_in, without_listeners as built_part};
 ghost use Rattle.script_form.specs.Results.{result_map};
@@ -123,7 +122,7 @@ impl<T: Drop> From<AllocFailed<T>> for ConfigRefusal {
 pub fn read_config(alloc: Global, bytes: &[u8]) -> Result<(Config, usize), ConfigRefusal>
     ensures config { Gives is_no_memory (result_map (λ r. r.0) result) (config_of bytes.now) }
     ensures ranges { IfOk result (λ r. IsConfig r.0) }
-    ensures begin { MatchResult result (λ r. lines (drop r.1 bytes.now) ≡ script_lines bytes.now) (λ _. ⊤) }
+    ensures begin { MatchResult result (λ r. IsScriptOf bytes.now (drop r.1 bytes.now)) (λ _. ⊤) }
     ensures within { MatchResult result (λ r. r.1 ≤ length bytes.now) (λ _. ⊤) }
 {
     let Some(script) = behind_marker(bytes) else {

@@ -1,6 +1,6 @@
-ghost use Rattle.std.specs.Prelude.{◌≡◌, ◌<◌, ◌≤◌, ◌∷◌, ◌-◌, [], ⊤, false, true, drop, length, MatchOption};
+ghost use Rattle.std.specs.Prelude.{◌≡◌, ◌<◌, ◌∷◌, ◌-◌, ⊤, drop, length, MatchOption};
 ghost use Rattle.std.specs.Str.Lines.{lines, strip_carriage_return};
-ghost use Rattle.script_form.specs.Lines.{has_marker, is_marker as is_marker_line, lines_too_large, script_lines, too_large as is_too_large};
+ghost use Rattle.script_form.specs.Lines.{HasMarker, HasNoMarker, HasNoLines, IsScriptOf, IsRestOf, is_marker as is_marker_line, lines_too_large, too_large as is_too_large};
 
 use memchr::memchr;
 
@@ -13,8 +13,8 @@ const MOST_LINE: usize = 1_048_576;
 /// The most lines of the script.
 const MOST_LINES: usize = 100_000;
 
-/// Whether the input passes a limit: its size (16,777,216 bytes), a line of its script (1,048,576 bytes), or
-/// the number of lines of its script (100,000).
+/// Whether the input passes a limit: its size (16,777,216 bytes), a line of its script (1,048,576 bytes),
+/// or the number of lines of its script (100,000).
 ///
 /// The script's lines are those behind the first line that is exactly `%%`; without such a line there are none.
 /// It costs the input's length.
@@ -44,9 +44,9 @@ fn lines_pass_limit(script: &[u8]) -> bool
 
 // The bytes behind the first line that is exactly `%%`; None exactly where there is none.
 pub(crate) fn behind_marker(bytes: &[u8]) -> Option<&[u8]>
-    ensures cases { MatchOption result (has_marker bytes.now ≡ false) (λ r. has_marker bytes.now ≡ true) }
-    ensures script { MatchOption result (script_lines bytes.now ≡ []) (λ r. lines r.now ≡ script_lines bytes.now) }
-    ensures place { MatchOption result ⊤ (λ r. (r.now ≡ drop (length bytes.now - length r.now) bytes.now) × (length r.now ≤ length bytes.now)) }
+    ensures cases { MatchOption result (HasNoMarker bytes.now) (λ _. HasMarker bytes.now) }
+    ensures script { MatchOption result (HasNoLines bytes.now) (λ r. IsScriptOf bytes.now r.now) }
+    ensures place { MatchOption result ⊤ (λ r. IsRestOf bytes.now r.now) }
 {
     let mut rest = bytes;
     while !rest.is_empty() {
@@ -66,7 +66,8 @@ pub(crate) fn is_marker(line: &[u8]) -> bool
     line == b"%%".as_slice()
 }
 
-// The first line, without the line feed that ends it and one carriage return before that, and the bytes behind it.
+// The first line, without the line feed that ends it and one carriage return before that, and the bytes
+// behind it.
 pub(crate) fn next_line(bytes: &[u8]) -> (&[u8], &[u8])
     requires { 0 < length bytes.now }
     ensures split { lines bytes.now ≡ result.0.now ∷ lines result.1.now }
