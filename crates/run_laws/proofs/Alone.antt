@@ -12,13 +12,13 @@ use Rattle.search_model.specs.TermQuery.{asked_of}
 use Rattle.run_laws.specs.Rows.{add, query, commit, RequestRow}
 use Rattle.run_laws.specs.Places.{view_of, warming}
 use Rattle.run_laws.specs.Lawful.{Shows}
-use Rattle.run_laws.specs.Trials.{Law, one_row_each, one_history, clients_orders, answers, greatest_serves, tickets, ticket_order, warmings, Keeps, BreaksAlone, told_of, one_warming, two_warming, two_fields, asked_x, served, row, document_a, document_b, add_commit_query, add_has_no_place, adds_in_phases, adds_of_two, another_warming_told, bad_add, bad_add_is_accepted, client_did_not_wait, commit_then_add, commit_then_phase, first_ends_first, generation_is_skipped, one_add, one_commit, one_query, opened_by_nobody, opened_nothing, openings_descend, phase_did_not_wait, phases_are_swapped, place_is_shared, placed_without_memory, places_are_swapped, queries_and_commit, query_then_commit, commits_in_turn, served_from_after, ticket_past_acquired, warmed_from_before, refused_without_cause, registered_too_late, reply_of_another_view, reply_with_another_document, row_is_missing, served_backwards, served_from_before, served_from_none, superseded_by_none, ticket_is_skipped, tickets_descend, two_adds, two_commits, two_queries, warmed_from_itself, warmed_from_none, warms_too_many}
+use Rattle.run_laws.specs.Trials.{Law, one_row_each, one_history, orders, answers, greatest_serves, tickets, ticket_order, warmings, Keeps, BreaksAlone, told_of, one_warming, two_warming, two_fields, asked_x, served, row, document_a, document_b, add_commit_query, add_has_no_place, adds_in_phases, adds_of_two, another_warming_told, bad_add, bad_add_is_accepted, client_did_not_wait, commit_then_add, commit_then_phase, first_ends_first, generation_is_skipped, one_add, one_commit, one_query, opened_by_nobody, opened_nothing, openings_descend, phase_did_not_wait, phases_are_swapped, place_is_shared, placed_without_memory, places_are_swapped, queries_and_commit, query_then_commit, commits_in_turn, served_from_after, ticket_past_acquired, warmed_from_before, refused_without_cause, registered_too_late, reply_of_another_view, another_document, row_is_missing, served_backwards, served_from_before, served_from_none, superseded_by_none, ticket_is_skipped, tickets_descend, two_adds, two_commits, two_queries, warmed_from_itself, warmed_from_none, warms_too_many}
 use Rattle.run_laws.proofs.Worked.{shows, shows_two, tells, tells_added, tells_committed, tells_served, add_answered, found_rows, found_history, found_orders, found_answers, found_serves, found_warmings, finds_one, one_answer}
 
 row_is_missing_others : (other : Law) → other ≢ one_row_each → Keeps one_warming add_commit_query row_is_missing other
 row_is_missing_others one_row_each differs = absurd (differs refl)
 row_is_missing_others one_history differs = search rules
-row_is_missing_others clients_orders differs = search rules
+row_is_missing_others orders differs = search rules
 row_is_missing_others answers differs = (add_answered 0 1 1 2, (inl (inl (3, 2, record { place = refl; generation = refl; ticket = refl; opened = refl; room = omega arith; shown = shows 1 2 commit (Some 3) (Some 2) None accepted })), tt))
 row_is_missing_others greatest_serves differs = search rules
 row_is_missing_others tickets differs = search rules
@@ -34,7 +34,7 @@ row_is_missing_alone = record { breaks = row_is_missing_breaks; keeps_others = r
 generation_is_skipped_others : (other : Law) → other ≢ one_row_each → Keeps one_warming one_commit generation_is_skipped other
 generation_is_skipped_others one_row_each differs = absurd (differs refl)
 generation_is_skipped_others one_history differs = search rules
-generation_is_skipped_others clients_orders differs = search rules
+generation_is_skipped_others orders differs = search rules
 generation_is_skipped_others answers differs = search (rules, shows, add_answered)
 generation_is_skipped_others greatest_serves differs = search rules
 generation_is_skipped_others tickets differs = search rules
@@ -50,7 +50,7 @@ generation_is_skipped_alone = record { breaks = generation_is_skipped_breaks; ke
 place_is_shared_others : (other : Law) → other ≢ one_history → Keeps one_warming adds_of_two place_is_shared other
 place_is_shared_others one_row_each differs = search (rules, shows)
 place_is_shared_others one_history differs = absurd (differs refl)
-place_is_shared_others clients_orders differs = search rules
+place_is_shared_others orders differs = search rules
 place_is_shared_others answers differs = search (rules, add_answered)
 place_is_shared_others greatest_serves differs = search rules
 place_is_shared_others tickets differs = search rules
@@ -66,7 +66,7 @@ place_is_shared_alone = record { breaks = place_is_shared_breaks; keeps_others =
 first_ends_first_others : (other : Law) → other ≢ one_history → Keeps one_warming [] first_ends_first other
 first_ends_first_others one_row_each differs = search (rules, shows)
 first_ends_first_others one_history differs = absurd (differs refl)
-first_ends_first_others clients_orders differs = tt
+first_ends_first_others orders differs = tt
 first_ends_first_others answers differs = tt
 first_ends_first_others greatest_serves differs = search rules
 first_ends_first_others tickets differs = search rules
@@ -82,7 +82,7 @@ first_ends_first_alone = record { breaks = first_ends_first_breaks; keeps_others
 opened_by_nobody_others : (other : Law) → other ≢ one_history → Keeps one_warming one_add opened_by_nobody other
 opened_by_nobody_others one_row_each differs = search (rules, shows)
 opened_by_nobody_others one_history differs = absurd (differs refl)
-opened_by_nobody_others clients_orders differs = search rules
+opened_by_nobody_others orders differs = search rules
 opened_by_nobody_others answers differs = search (rules, add_answered)
 opened_by_nobody_others greatest_serves differs = search rules
 opened_by_nobody_others tickets differs = search rules
@@ -98,7 +98,7 @@ opened_by_nobody_alone = record { breaks = opened_by_nobody_breaks; keeps_others
 openings_descend_others : (other : Law) → other ≢ one_history → Keeps two_warming two_commits openings_descend other
 openings_descend_others one_row_each differs = search (rules, shows_two)
 openings_descend_others one_history differs = absurd (differs refl)
-openings_descend_others clients_orders differs = search rules
+openings_descend_others orders differs = search rules
 openings_descend_others answers differs = search (rules, shows_two, add_answered)
 openings_descend_others greatest_serves differs = search rules
 openings_descend_others tickets differs = search rules
@@ -111,74 +111,74 @@ openings_descend_breaks h = grind (arith, common_steps)
 pub openings_descend_alone : BreaksAlone two_warming two_commits openings_descend one_history
 openings_descend_alone = record { breaks = openings_descend_breaks; keeps_others = openings_descend_others }
 
-places_are_swapped_others : (other : Law) → other ≢ clients_orders → Keeps one_warming two_adds places_are_swapped other
+places_are_swapped_others : (other : Law) → other ≢ orders → Keeps one_warming two_adds places_are_swapped other
 places_are_swapped_others one_row_each differs = search (rules, shows)
 places_are_swapped_others one_history differs = search rules
-places_are_swapped_others clients_orders differs = absurd (differs refl)
+places_are_swapped_others orders differs = absurd (differs refl)
 places_are_swapped_others answers differs = search (rules, add_answered)
 places_are_swapped_others greatest_serves differs = search rules
 places_are_swapped_others tickets differs = search rules
 places_are_swapped_others ticket_order differs = search rules
 places_are_swapped_others warmings differs = search rules
 
-places_are_swapped_breaks : Keeps one_warming two_adds places_are_swapped clients_orders → ⊥
+places_are_swapped_breaks : Keeps one_warming two_adds places_are_swapped orders → ⊥
 places_are_swapped_breaks h = grind (arith, common_steps)
 
-pub places_are_swapped_alone : BreaksAlone one_warming two_adds places_are_swapped clients_orders
+pub places_are_swapped_alone : BreaksAlone one_warming two_adds places_are_swapped orders
 places_are_swapped_alone = record { breaks = places_are_swapped_breaks; keeps_others = places_are_swapped_others }
 
-phases_are_swapped_others : (other : Law) → other ≢ clients_orders → Keeps one_warming adds_in_phases phases_are_swapped other
+phases_are_swapped_others : (other : Law) → other ≢ orders → Keeps one_warming adds_in_phases phases_are_swapped other
 phases_are_swapped_others one_row_each differs = search (rules, shows)
 phases_are_swapped_others one_history differs = search rules
-phases_are_swapped_others clients_orders differs = absurd (differs refl)
+phases_are_swapped_others orders differs = absurd (differs refl)
 phases_are_swapped_others answers differs = search (rules, add_answered)
 phases_are_swapped_others greatest_serves differs = search rules
 phases_are_swapped_others tickets differs = search rules
 phases_are_swapped_others ticket_order differs = search rules
 phases_are_swapped_others warmings differs = search rules
 
-phases_are_swapped_breaks : Keeps one_warming adds_in_phases phases_are_swapped clients_orders → ⊥
+phases_are_swapped_breaks : Keeps one_warming adds_in_phases phases_are_swapped orders → ⊥
 phases_are_swapped_breaks h = grind (arith, common_steps)
 
-pub phases_are_swapped_alone : BreaksAlone one_warming adds_in_phases phases_are_swapped clients_orders
+pub phases_are_swapped_alone : BreaksAlone one_warming adds_in_phases phases_are_swapped orders
 phases_are_swapped_alone = record { breaks = phases_are_swapped_breaks; keeps_others = phases_are_swapped_others }
 
-client_did_not_wait_others : (other : Law) → other ≢ clients_orders → Keeps one_warming commit_then_add client_did_not_wait other
+client_did_not_wait_others : (other : Law) → other ≢ orders → Keeps one_warming commit_then_add client_did_not_wait other
 client_did_not_wait_others one_row_each differs = search (rules, shows)
 client_did_not_wait_others one_history differs = search rules
-client_did_not_wait_others clients_orders differs = absurd (differs refl)
+client_did_not_wait_others orders differs = absurd (differs refl)
 client_did_not_wait_others answers differs = (inl (inl (2, 2, record { place = refl; generation = refl; ticket = refl; opened = refl; room = omega arith; shown = shows 1 1 commit (Some 2) (Some 2) None accepted })), (add_answered 0 1 2 3, tt))
 client_did_not_wait_others greatest_serves differs = search rules
 client_did_not_wait_others tickets differs = search rules
 client_did_not_wait_others ticket_order differs = search rules
 client_did_not_wait_others warmings differs = (refl, ((refl, (2, omega arith, omega arith, refl)), tt))
 
-client_did_not_wait_breaks : Keeps one_warming commit_then_add client_did_not_wait clients_orders → ⊥
+client_did_not_wait_breaks : Keeps one_warming commit_then_add client_did_not_wait orders → ⊥
 client_did_not_wait_breaks h = grind (arith, common_steps)
 
-pub client_did_not_wait_alone : BreaksAlone one_warming commit_then_add client_did_not_wait clients_orders
+pub client_did_not_wait_alone : BreaksAlone one_warming commit_then_add client_did_not_wait orders
 client_did_not_wait_alone = record { breaks = client_did_not_wait_breaks; keeps_others = client_did_not_wait_others }
 
-phase_did_not_wait_others : (other : Law) → other ≢ clients_orders → Keeps one_warming commit_then_phase phase_did_not_wait other
+phase_did_not_wait_others : (other : Law) → other ≢ orders → Keeps one_warming commit_then_phase phase_did_not_wait other
 phase_did_not_wait_others one_row_each differs = search (rules, shows)
 phase_did_not_wait_others one_history differs = search rules
-phase_did_not_wait_others clients_orders differs = absurd (differs refl)
+phase_did_not_wait_others orders differs = absurd (differs refl)
 phase_did_not_wait_others answers differs = (inl (inl (2, 2, record { place = refl; generation = refl; ticket = refl; opened = refl; room = omega arith; shown = shows 1 1 commit (Some 2) (Some 2) None accepted })), (add_answered 1 2 3 3, tt))
 phase_did_not_wait_others greatest_serves differs = search rules
 phase_did_not_wait_others tickets differs = search rules
 phase_did_not_wait_others ticket_order differs = search rules
 phase_did_not_wait_others warmings differs = (refl, ((refl, (2, omega arith, omega arith, refl)), tt))
 
-phase_did_not_wait_breaks : Keeps one_warming commit_then_phase phase_did_not_wait clients_orders → ⊥
+phase_did_not_wait_breaks : Keeps one_warming commit_then_phase phase_did_not_wait orders → ⊥
 phase_did_not_wait_breaks h = grind (arith, common_steps)
 
-pub phase_did_not_wait_alone : BreaksAlone one_warming commit_then_phase phase_did_not_wait clients_orders
+pub phase_did_not_wait_alone : BreaksAlone one_warming commit_then_phase phase_did_not_wait orders
 phase_did_not_wait_alone = record { breaks = phase_did_not_wait_breaks; keeps_others = phase_did_not_wait_others }
 
 add_has_no_place_others : (other : Law) → other ≢ answers → Keeps one_warming two_adds add_has_no_place other
 add_has_no_place_others one_row_each differs = search (rules, shows)
 add_has_no_place_others one_history differs = search rules
-add_has_no_place_others clients_orders differs = search rules
+add_has_no_place_others orders differs = search rules
 add_has_no_place_others answers differs = absurd (differs refl)
 add_has_no_place_others greatest_serves differs = search rules
 add_has_no_place_others tickets differs = search rules
@@ -194,7 +194,7 @@ add_has_no_place_alone = record { breaks = add_has_no_place_breaks; keeps_others
 bad_add_is_accepted_others : (other : Law) → other ≢ answers → Keeps one_warming bad_add bad_add_is_accepted other
 bad_add_is_accepted_others one_row_each differs = search (rules, shows)
 bad_add_is_accepted_others one_history differs = search rules
-bad_add_is_accepted_others clients_orders differs = search rules
+bad_add_is_accepted_others orders differs = search rules
 bad_add_is_accepted_others answers differs = absurd (differs refl)
 bad_add_is_accepted_others greatest_serves differs = search rules
 bad_add_is_accepted_others tickets differs = search rules
@@ -211,7 +211,7 @@ bad_add_is_accepted_alone = record { breaks = bad_add_is_accepted_breaks; keeps_
 placed_without_memory_others : (other : Law) → other ≢ answers → Keeps one_warming one_add placed_without_memory other
 placed_without_memory_others one_row_each differs = record { rows = refl; numbers = (tells 1 1 add (Some 2) None None no_memory, tt); generations = refl }
 placed_without_memory_others one_history differs = search rules
-placed_without_memory_others clients_orders differs = search rules
+placed_without_memory_others orders differs = search rules
 placed_without_memory_others answers differs = absurd (differs refl)
 placed_without_memory_others greatest_serves differs = search rules
 placed_without_memory_others tickets differs = search rules
@@ -227,7 +227,7 @@ placed_without_memory_alone = record { breaks = placed_without_memory_breaks; ke
 superseded_by_none_others : (other : Law) → other ≢ greatest_serves → Keeps one_warming one_commit superseded_by_none other
 superseded_by_none_others one_row_each differs = search (rules, shows)
 superseded_by_none_others one_history differs = search rules
-superseded_by_none_others clients_orders differs = search rules
+superseded_by_none_others orders differs = search rules
 superseded_by_none_others answers differs = search (rules, shows, add_answered)
 superseded_by_none_others greatest_serves differs = absurd (differs refl)
 superseded_by_none_others tickets differs = search rules
@@ -243,7 +243,7 @@ superseded_by_none_alone = record { breaks = superseded_by_none_breaks; keeps_ot
 registered_too_late_others : (other : Law) → other ≢ greatest_serves → Keeps two_warming two_commits registered_too_late other
 registered_too_late_others one_row_each differs = search (rules, shows_two)
 registered_too_late_others one_history differs = search rules
-registered_too_late_others clients_orders differs = search rules
+registered_too_late_others orders differs = search rules
 registered_too_late_others answers differs = search (rules, shows_two, add_answered)
 registered_too_late_others greatest_serves differs = absurd (differs refl)
 registered_too_late_others tickets differs = search rules
@@ -259,7 +259,7 @@ registered_too_late_alone = record { breaks = registered_too_late_breaks; keeps_
 refused_without_cause_others : (other : Law) → other ≢ answers → Keeps one_warming one_commit refused_without_cause other
 refused_without_cause_others one_row_each differs = record { rows = refl; numbers = (tells 1 1 commit (Some 2) None None (too_many []), tt); generations = refl }
 refused_without_cause_others one_history differs = search rules
-refused_without_cause_others clients_orders differs = search rules
+refused_without_cause_others orders differs = search rules
 refused_without_cause_others answers differs = absurd (differs refl)
 refused_without_cause_others greatest_serves differs = search rules
 refused_without_cause_others tickets differs = search rules
@@ -275,7 +275,7 @@ refused_without_cause_alone = record { breaks = refused_without_cause_breaks; ke
 opened_nothing_others : (other : Law) → other ≢ answers → Keeps one_warming one_commit opened_nothing other
 opened_nothing_others one_row_each differs = search (rules, shows)
 opened_nothing_others one_history differs = search rules
-opened_nothing_others clients_orders differs = search rules
+opened_nothing_others orders differs = search rules
 opened_nothing_others answers differs = absurd (differs refl)
 opened_nothing_others greatest_serves differs = search rules
 opened_nothing_others tickets differs = search rules
@@ -291,7 +291,7 @@ opened_nothing_alone = record { breaks = opened_nothing_breaks; keeps_others = o
 another_warming_told_others : (other : Law) → other ≢ answers → Keeps one_warming two_commits another_warming_told other
 another_warming_told_others one_row_each differs = record { rows = refl; numbers = (tells_committed 1 1 2 2, (tells 2 2 commit (Some 3) None None (too_many (1 ∷ [])), tt)); generations = refl }
 another_warming_told_others one_history differs = search rules
-another_warming_told_others clients_orders differs = search rules
+another_warming_told_others orders differs = search rules
 another_warming_told_others answers differs = absurd (differs refl)
 another_warming_told_others greatest_serves differs = search rules
 another_warming_told_others tickets differs = search rules
@@ -323,7 +323,7 @@ another_warming_told_alone = record { breaks = another_warming_told_breaks; keep
 warms_too_many_others : (other : Law) → other ≢ answers → Keeps one_warming two_commits warms_too_many other
 warms_too_many_others one_row_each differs = search (rules, shows)
 warms_too_many_others one_history differs = search rules
-warms_too_many_others clients_orders differs = search rules
+warms_too_many_others orders differs = search rules
 warms_too_many_others answers differs = absurd (differs refl)
 warms_too_many_others greatest_serves differs = search rules
 warms_too_many_others tickets differs = search rules
@@ -339,7 +339,7 @@ warms_too_many_alone = record { breaks = warms_too_many_breaks; keeps_others = w
 served_from_none_others : (other : Law) → other ≢ answers → Keeps one_warming one_query served_from_none other
 served_from_none_others one_row_each differs = record { rows = refl; numbers = (tells_served 1 2 0 [], tt); generations = refl }
 served_from_none_others one_history differs = search rules
-served_from_none_others clients_orders differs = search rules
+served_from_none_others orders differs = search rules
 served_from_none_others answers differs = absurd (differs refl)
 served_from_none_others greatest_serves differs = search rules
 served_from_none_others tickets differs = search rules
@@ -355,7 +355,7 @@ served_from_none_alone = record { breaks = served_from_none_breaks; keeps_others
 reply_of_another_view_others : (other : Law) → other ≢ answers → Keeps one_warming add_commit_query reply_of_another_view other
 reply_of_another_view_others one_row_each differs = record { rows = refl; numbers = (tells_added 1 1 2, (tells_committed 1 2 3 2, (tells_served 3 2 0 [], tt))); generations = refl }
 reply_of_another_view_others one_history differs = search rules
-reply_of_another_view_others clients_orders differs = search rules
+reply_of_another_view_others orders differs = search rules
 reply_of_another_view_others answers differs = absurd (differs refl)
 reply_of_another_view_others greatest_serves differs = search rules
 reply_of_another_view_others tickets differs = search rules
@@ -380,15 +380,15 @@ reply_of_another_view_breaks h = elim h.1.1.0 [
 pub reply_of_another_view_alone : BreaksAlone one_warming add_commit_query reply_of_another_view answers
 reply_of_another_view_alone = record { breaks = reply_of_another_view_breaks; keeps_others = reply_of_another_view_others }
 
-reply_with_another_document_others : (other : Law) → other ≢ answers → Keeps one_warming add_commit_query reply_with_another_document other
-reply_with_another_document_others one_row_each differs = record { rows = refl; numbers = (tells_added 1 1 2, (tells_committed 1 2 3 2, (tells 1 3 query None (Some 2) (Some 0) (found asked_x (record { found = 1; docs = document_b ∷ [] })), tt))); generations = refl }
-reply_with_another_document_others one_history differs = search rules
-reply_with_another_document_others clients_orders differs = search rules
-reply_with_another_document_others answers differs = absurd (differs refl)
-reply_with_another_document_others greatest_serves differs = search rules
-reply_with_another_document_others tickets differs = search rules
-reply_with_another_document_others ticket_order differs = search rules
-reply_with_another_document_others warmings differs = (refl, ((refl, (3, omega arith, omega arith, refl)), tt))
+another_document_others : (other : Law) → other ≢ answers → Keeps one_warming add_commit_query another_document other
+another_document_others one_row_each differs = record { rows = refl; numbers = (tells_added 1 1 2, (tells_committed 1 2 3 2, (tells 1 3 query None (Some 2) (Some 0) (found asked_x (record { found = 1; docs = document_b ∷ [] })), tt))); generations = refl }
+another_document_others one_history differs = search rules
+another_document_others orders differs = search rules
+another_document_others answers differs = absurd (differs refl)
+another_document_others greatest_serves differs = search rules
+another_document_others tickets differs = search rules
+another_document_others ticket_order differs = search rules
+another_document_others warmings differs = (refl, ((refl, (3, omega arith, omega arith, refl)), tt))
 
 -- the two replies differ where the unique key stands
 replies_differ : reply_text two_fields (found asked_x (record { found = 1; docs = document_b ∷ [] })) ≡ reply_text two_fields (found asked_x (record { found = 1; docs = document_a ∷ [] })) → ⊥
@@ -401,26 +401,26 @@ replies_differ e =
 abbrev told_b : RequestRow
 told_b = row 1 3 query None (Some 2) (Some 0) (found asked_x (record { found = 1; docs = document_b ∷ [] }))
 
-a_is_found : (g : ℕ) → Some 2 ≡ Some g → Shows one_warming told_b (found asked_x (answer (view_of one_warming (told_of add_commit_query reply_with_another_document) reply_with_another_document g) asked_x)) → ⊥
+a_is_found : (g : ℕ) → Some 2 ≡ Some g → Shows one_warming told_b (found asked_x (answer (view_of one_warming (told_of add_commit_query another_document) another_document g) asked_x)) → ⊥
 unfolding serde_json_on_literals
 a_is_found g e s =
-    let shown = subst (λ (n : ℕ). Shows one_warming told_b (found asked_x (answer (view_of one_warming (told_of add_commit_query reply_with_another_document) reply_with_another_document n) asked_x))) (ap (λ (o : Option ℕ). option_map_or (λ n. n) o 2) (sym e)) s in
+    let shown = subst (λ (n : ℕ). Shows one_warming told_b (found asked_x (answer (view_of one_warming (told_of add_commit_query another_document) another_document n) asked_x))) (ap (λ (o : Option ℕ). option_map_or (λ n. n) o 2) (sym e)) s in
     replies_differ (shown.reply ∙ ap (λ a. reply_text two_fields (found asked_x a)) one_answer)
 
-reply_with_another_document_breaks : Keeps one_warming add_commit_query reply_with_another_document answers → ⊥
+another_document_breaks : Keeps one_warming add_commit_query another_document answers → ⊥
 unfolding asked_of
-reply_with_another_document_breaks h = elim h.1.1.0 [
+another_document_breaks h = elim h.1.1.0 [
   | inl w ↦ elim w.2.shown [ inl s ↦ a_is_found w.0 w.2.generation s | inr s ↦ (let code : ◌≡◌ {A = ℕ} 0 500 = s.code in omega (arith, code)) ]
   | inr w ↦ (let code : ◌≡◌ {A = ℕ} 0 500 = w.1.code in omega (arith, code))
 ]
 
-pub reply_with_another_document_alone : BreaksAlone one_warming add_commit_query reply_with_another_document answers
-reply_with_another_document_alone = record { breaks = reply_with_another_document_breaks; keeps_others = reply_with_another_document_others }
+pub another_document_alone : BreaksAlone one_warming add_commit_query another_document answers
+another_document_alone = record { breaks = another_document_breaks; keeps_others = another_document_others }
 
 served_from_before_others : (other : Law) → other ≢ answers → Keeps one_warming add_commit_query served_from_before other
 served_from_before_others one_row_each differs = record { rows = refl; numbers = (tells_added 1 1 2, (tells_committed 1 2 3 2, (tells_served 3 1 1 [], tt))); generations = refl }
 served_from_before_others one_history differs = search rules
-served_from_before_others clients_orders differs = search rules
+served_from_before_others orders differs = search rules
 served_from_before_others answers differs = absurd (differs refl)
 served_from_before_others greatest_serves differs = search rules
 served_from_before_others tickets differs = search rules
@@ -436,7 +436,7 @@ served_from_before_alone = record { breaks = served_from_before_breaks; keeps_ot
 served_backwards_others : (other : Law) → other ≢ answers → Keeps one_warming queries_and_commit served_backwards other
 served_backwards_others one_row_each differs = record { rows = refl; numbers = (tells_served 1 2 0 [], (tells_served 2 1 1 [], (tells_committed 2 3 2 2, tt))); generations = refl }
 served_backwards_others one_history differs = search rules
-served_backwards_others clients_orders differs = search rules
+served_backwards_others orders differs = search rules
 served_backwards_others answers differs = absurd (differs refl)
 served_backwards_others greatest_serves differs = search rules
 served_backwards_others tickets differs = search rules
@@ -452,7 +452,7 @@ served_backwards_alone = record { breaks = served_backwards_breaks; keeps_others
 tickets_descend_others : (other : Law) → other ≢ answers → Keeps one_warming two_queries tickets_descend other
 tickets_descend_others one_row_each differs = record { rows = refl; numbers = (tells_served 1 1 1 [], (tells_served 2 1 0 [], tt)); generations = refl }
 tickets_descend_others one_history differs = search rules
-tickets_descend_others clients_orders differs = search rules
+tickets_descend_others orders differs = search rules
 tickets_descend_others answers differs = absurd (differs refl)
 tickets_descend_others greatest_serves differs = search rules
 tickets_descend_others tickets differs = search rules
@@ -468,7 +468,7 @@ tickets_descend_alone = record { breaks = tickets_descend_breaks; keeps_others =
 ticket_is_skipped_others : (other : Law) → other ≢ tickets → Keeps one_warming add_commit_query ticket_is_skipped other
 ticket_is_skipped_others one_row_each differs = found_rows 1 1 (Some (1, 0)) 1
 ticket_is_skipped_others one_history differs = found_history 1 1 (Some (1, 0)) 1
-ticket_is_skipped_others clients_orders differs = found_orders 1 1 (Some (1, 0)) 1
+ticket_is_skipped_others orders differs = found_orders 1 1 (Some (1, 0)) 1
 ticket_is_skipped_others answers differs = found_answers 1 1 (Some (1, 0)) 1
 ticket_is_skipped_others greatest_serves differs = found_serves 1 1 (Some (1, 0)) 1
 ticket_is_skipped_others tickets differs = absurd (differs refl)
@@ -484,7 +484,7 @@ ticket_is_skipped_alone = record { breaks = ticket_is_skipped_breaks; keeps_othe
 warmed_from_none_others : (other : Law) → other ≢ warmings → Keeps one_warming add_commit_query warmed_from_none other
 warmed_from_none_others one_row_each differs = found_rows 0 1 None 0
 warmed_from_none_others one_history differs = found_history 0 1 None 0
-warmed_from_none_others clients_orders differs = found_orders 0 1 None 0
+warmed_from_none_others orders differs = found_orders 0 1 None 0
 warmed_from_none_others answers differs = found_answers 0 1 None 0
 warmed_from_none_others greatest_serves differs = found_serves 0 1 None 0
 warmed_from_none_others tickets differs = search rules
@@ -500,7 +500,7 @@ warmed_from_none_alone = record { breaks = warmed_from_none_breaks; keeps_others
 warmed_from_itself_others : (other : Law) → other ≢ warmings → Keeps one_warming add_commit_query warmed_from_itself other
 warmed_from_itself_others one_row_each differs = found_rows 0 2 (Some (2, 0)) 1
 warmed_from_itself_others one_history differs = found_history 0 2 (Some (2, 0)) 1
-warmed_from_itself_others clients_orders differs = found_orders 0 2 (Some (2, 0)) 1
+warmed_from_itself_others orders differs = found_orders 0 2 (Some (2, 0)) 1
 warmed_from_itself_others answers differs = found_answers 0 2 (Some (2, 0)) 1
 warmed_from_itself_others greatest_serves differs = found_serves 0 2 (Some (2, 0)) 1
 warmed_from_itself_others tickets differs = search rules
@@ -516,7 +516,7 @@ warmed_from_itself_alone = record { breaks = warmed_from_itself_breaks; keeps_ot
 served_from_after_others : (other : Law) → other ≢ answers → Keeps one_warming query_then_commit served_from_after other
 served_from_after_others one_row_each differs = record { rows = refl; numbers = (tells_served 1 2 0 [], (tells_committed 1 2 2 2, tt)); generations = refl }
 served_from_after_others one_history differs = search rules
-served_from_after_others clients_orders differs = search rules
+served_from_after_others orders differs = search rules
 served_from_after_others answers differs = absurd (differs refl)
 served_from_after_others greatest_serves differs = search rules
 served_from_after_others tickets differs = search rules
@@ -533,7 +533,7 @@ ticket_past_acquired_others : (other : Law) → other ≢ tickets → Keeps one_
 unfolding asked_of
 ticket_past_acquired_others one_row_each differs = record { rows = refl; numbers = (tells_served 1 1 0 [], tt); generations = refl }
 ticket_past_acquired_others one_history differs = search rules
-ticket_past_acquired_others clients_orders differs = search rules
+ticket_past_acquired_others orders differs = search rules
 ticket_past_acquired_others answers differs = (inl (1, 0, record { place = refl; generation = refl; ticket = refl; current = (1, omega arith, omega arith, refl); rising = tt; shown = inl (shows 1 1 query None (Some 1) (Some 0) (found asked_x (answer [] asked_x))) }), tt)
 ticket_past_acquired_others greatest_serves differs = search rules
 ticket_past_acquired_others tickets differs = absurd (differs refl)
@@ -549,7 +549,7 @@ ticket_past_acquired_alone = record { breaks = ticket_past_acquired_breaks; keep
 warmed_from_before_others : (other : Law) → other ≢ warmings → Keeps one_warming commits_in_turn warmed_from_before other
 warmed_from_before_others one_row_each differs = record { rows = refl; numbers = (tells_committed 1 1 2 2, (tells_committed 1 2 4 3, tt)); generations = refl }
 warmed_from_before_others one_history differs = search rules
-warmed_from_before_others clients_orders differs = search rules
+warmed_from_before_others orders differs = search rules
 warmed_from_before_others answers differs = search (rules, shows, add_answered)
 warmed_from_before_others greatest_serves differs = search rules
 warmed_from_before_others tickets differs = search rules

@@ -7,13 +7,13 @@ use Rattle.search_model.specs.Reply.{accepted, too_many, no_memory}
 use Rattle.run_laws.specs.Rows.{add, query, commit}
 use Rattle.run_laws.specs.Lawful.{Lawful}
 use Rattle.run_laws.specs.OutputText.{output_text}
-use Rattle.run_laws.specs.Trials.{Law, one_row_each, one_history, clients_orders, answers, greatest_serves, tickets, ticket_order, warmings, Keeps, one_warming, two_warming, one_add, one_query, two_commits, nothing_asked, overtaken, overtaken_text, warming_told, add_without_memory, query_without_memory}
+use Rattle.run_laws.specs.Trials.{Law, one_row_each, one_history, orders, answers, greatest_serves, tickets, ticket_order, warmings, Keeps, one_warming, two_warming, one_add, one_query, two_commits, nothing_asked, overtaken, overtaken_text, warming_told, add_without_memory, query_without_memory}
 use Rattle.run_laws.proofs.Worked.{shows, shows_two, tells, tells_committed, lawful_by}
 
 nothing_keeps : (law : Law) → Keeps one_warming [] nothing_asked law
 nothing_keeps one_row_each = search rules
 nothing_keeps one_history = search rules
-nothing_keeps clients_orders = tt
+nothing_keeps orders = tt
 nothing_keeps answers = tt
 nothing_keeps greatest_serves = search rules
 nothing_keeps tickets = search rules
@@ -26,7 +26,7 @@ nothing_is_lawful = lawful_by one_warming [] nothing_asked nothing_keeps
 overtaken_keeps : (law : Law) → Keeps two_warming two_commits overtaken law
 overtaken_keeps one_row_each = search (rules, shows_two)
 overtaken_keeps one_history = search rules
-overtaken_keeps clients_orders = search rules
+overtaken_keeps orders = search rules
 overtaken_keeps answers = search (rules, shows_two)
 overtaken_keeps greatest_serves = search rules
 overtaken_keeps tickets = search rules
@@ -39,7 +39,7 @@ overtaken_is_lawful = lawful_by two_warming two_commits overtaken overtaken_keep
 warming_told_keeps : (law : Law) → Keeps one_warming two_commits warming_told law
 warming_told_keeps one_row_each = record { rows = refl; numbers = (tells_committed 1 1 2 2, (tells 2 2 commit (Some 3) None None (too_many (2 ∷ [])), tt)); generations = refl }
 warming_told_keeps one_history = search rules
-warming_told_keeps clients_orders = search rules
+warming_told_keeps orders = search rules
 warming_told_keeps answers = (
   inl (inl (2, 2, record { place = refl; generation = refl; ticket = refl; opened = refl; room = omega arith; shown = shows 1 1 commit (Some 2) (Some 2) None accepted })),
   (
@@ -60,7 +60,7 @@ memory_keeps : (law : Law) → Keeps one_warming one_add add_without_memory law
 unfolding serde_json_on_literals
 memory_keeps one_row_each = record { rows = refl; numbers = (tells 1 1 add None None None no_memory, tt); generations = refl }
 memory_keeps one_history = search rules
-memory_keeps clients_orders = search rules
+memory_keeps orders = search rules
 memory_keeps answers = (inr (record { place = refl; generation = refl; ticket = refl }, shows 1 1 add None None None no_memory), tt)
 memory_keeps greatest_serves = search rules
 memory_keeps tickets = search rules
@@ -75,7 +75,7 @@ query_memory_keeps : (law : Law) → Keeps one_warming one_query query_without_m
 unfolding asked_of
 query_memory_keeps one_row_each = record { rows = refl; numbers = (tells 1 1 query None (Some 1) (Some 0) no_memory, tt); generations = refl }
 query_memory_keeps one_history = search rules
-query_memory_keeps clients_orders = search rules
+query_memory_keeps orders = search rules
 query_memory_keeps answers = (
   inl (1, 0, record { place = refl; generation = refl; ticket = refl; current = (1, omega arith, omega arith, refl); rising = tt; shown = inr (shows 1 1 query None (Some 1) (Some 0) no_memory) }),
   tt,

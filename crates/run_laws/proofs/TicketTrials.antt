@@ -6,24 +6,24 @@ use Rattle.search_model.specs.Answer.{answer}
 use Rattle.search_model.specs.TermQuery.{asked_of}
 use Rattle.search_model.specs.Reply.{accepted, found}
 use Rattle.run_laws.specs.Rows.{query, commit}
-use Rattle.run_laws.specs.Trials.{Law, one_row_each, one_history, clients_orders, answers, greatest_serves, tickets, ticket_order, warmings, Keeps, BreaksAlone, one_warming, asked_x, query_then_commit, queries_in_phases, crossing, phases_tickets_descend, tickets_cross, warming_ticket_crosses}
+use Rattle.run_laws.specs.Trials.{Law, one_row_each, one_history, orders, answers, greatest_serves, tickets, ticket_order, warmings, Keeps, BreaksAlone, one_warming, asked_x, query_then_commit, queries_in_phases, crossing, phases_descend, tickets_cross, warming_crosses}
 use Rattle.run_laws.proofs.Worked.{shows, tells, add_answered}
 
-phases_tickets_descend_others : (other : Law) → other ≢ answers → Keeps one_warming queries_in_phases phases_tickets_descend other
-phases_tickets_descend_others one_row_each differs = search (rules, tells)
-phases_tickets_descend_others one_history differs = search rules
-phases_tickets_descend_others clients_orders differs = search rules
-phases_tickets_descend_others answers differs = absurd (differs refl)
-phases_tickets_descend_others greatest_serves differs = search rules
-phases_tickets_descend_others tickets differs = search rules
-phases_tickets_descend_others ticket_order differs = search rules
-phases_tickets_descend_others warmings differs = search rules
+phases_descend_others : (other : Law) → other ≢ answers → Keeps one_warming queries_in_phases phases_descend other
+phases_descend_others one_row_each differs = search (rules, tells)
+phases_descend_others one_history differs = search rules
+phases_descend_others orders differs = search rules
+phases_descend_others answers differs = absurd (differs refl)
+phases_descend_others greatest_serves differs = search rules
+phases_descend_others tickets differs = search rules
+phases_descend_others ticket_order differs = search rules
+phases_descend_others warmings differs = search rules
 
-phases_tickets_descend_breaks : Keeps one_warming queries_in_phases phases_tickets_descend answers → ⊥
-phases_tickets_descend_breaks h = grind (arith, common_steps)
+phases_descend_breaks : Keeps one_warming queries_in_phases phases_descend answers → ⊥
+phases_descend_breaks h = grind (arith, common_steps)
 
-pub phases_tickets_descend_alone : BreaksAlone one_warming queries_in_phases phases_tickets_descend answers
-phases_tickets_descend_alone = record { breaks = phases_tickets_descend_breaks; keeps_others = phases_tickets_descend_others }
+pub phases_descend_alone : BreaksAlone one_warming queries_in_phases phases_descend answers
+phases_descend_alone = record { breaks = phases_descend_breaks; keeps_others = phases_descend_others }
 
 -- a query of the first searcher is answered where that was current at a place between its neighbours
 tickets_cross_answered : Keeps one_warming crossing tickets_cross answers
@@ -39,7 +39,7 @@ tickets_cross_answered = (
   ),
 )
 
-warming_ticket_answered : Keeps one_warming query_then_commit warming_ticket_crosses answers
+warming_ticket_answered : Keeps one_warming query_then_commit warming_crosses answers
 unfolding serde_json_on_literals asked_of
 warming_ticket_answered = (
   inl (1, 1, record { place = refl; generation = refl; ticket = refl; current = (1, omega arith, omega arith, refl); rising = tt; shown = inl (shows 1 1 query None (Some 1) (Some 1) (found asked_x (answer [] asked_x))) }),
@@ -49,7 +49,7 @@ warming_ticket_answered = (
 tickets_cross_others : (other : Law) → other ≢ ticket_order → Keeps one_warming crossing tickets_cross other
 tickets_cross_others one_row_each differs = search (rules, tells)
 tickets_cross_others one_history differs = search rules
-tickets_cross_others clients_orders differs = search rules
+tickets_cross_others orders differs = search rules
 tickets_cross_others answers differs = tickets_cross_answered
 tickets_cross_others greatest_serves differs = search rules
 tickets_cross_others tickets differs = search rules
@@ -62,18 +62,18 @@ tickets_cross_breaks h = grind (arith, common_steps)
 pub tickets_cross_alone : BreaksAlone one_warming crossing tickets_cross ticket_order
 tickets_cross_alone = record { breaks = tickets_cross_breaks; keeps_others = tickets_cross_others }
 
-warming_ticket_crosses_others : (other : Law) → other ≢ ticket_order → Keeps one_warming query_then_commit warming_ticket_crosses other
-warming_ticket_crosses_others one_row_each differs = search (rules, tells)
-warming_ticket_crosses_others one_history differs = search rules
-warming_ticket_crosses_others clients_orders differs = search rules
-warming_ticket_crosses_others answers differs = warming_ticket_answered
-warming_ticket_crosses_others greatest_serves differs = search rules
-warming_ticket_crosses_others tickets differs = search rules
-warming_ticket_crosses_others ticket_order differs = absurd (differs refl)
-warming_ticket_crosses_others warmings differs = (refl, ((refl, (2, omega arith, omega arith, refl)), tt))
+warming_crosses_others : (other : Law) → other ≢ ticket_order → Keeps one_warming query_then_commit warming_crosses other
+warming_crosses_others one_row_each differs = search (rules, tells)
+warming_crosses_others one_history differs = search rules
+warming_crosses_others orders differs = search rules
+warming_crosses_others answers differs = warming_ticket_answered
+warming_crosses_others greatest_serves differs = search rules
+warming_crosses_others tickets differs = search rules
+warming_crosses_others ticket_order differs = absurd (differs refl)
+warming_crosses_others warmings differs = (refl, ((refl, (2, omega arith, omega arith, refl)), tt))
 
-warming_ticket_crosses_breaks : Keeps one_warming query_then_commit warming_ticket_crosses ticket_order → ⊥
-warming_ticket_crosses_breaks h = grind (arith, common_steps)
+warming_crosses_breaks : Keeps one_warming query_then_commit warming_crosses ticket_order → ⊥
+warming_crosses_breaks h = grind (arith, common_steps)
 
-pub warming_ticket_crosses_alone : BreaksAlone one_warming query_then_commit warming_ticket_crosses ticket_order
-warming_ticket_crosses_alone = record { breaks = warming_ticket_crosses_breaks; keeps_others = warming_ticket_crosses_others }
+pub warming_crosses_alone : BreaksAlone one_warming query_then_commit warming_crosses ticket_order
+warming_crosses_alone = record { breaks = warming_crosses_breaks; keeps_others = warming_crosses_others }

@@ -15,7 +15,7 @@ use Rattle.run_laws.specs.Rows.{Verb, add, query, commit, Output}
 use Rattle.run_laws.specs.CallReadings.{update_of}
 use Rattle.run_laws.specs.Lawful.{Lawful, Shows, UpdateIsAnswered}
 use Rattle.run_laws.specs.OutputText.{output_text}
-use Rattle.run_laws.specs.Trials.{Law, one_row_each, one_history, clients_orders, answers, greatest_serves, tickets, ticket_order, warmings, Keeps, one_warming, two_warming, add_a, document_a, asked_x, add_commit_query, row, added_at, committed_at, served, found_once, worked, worked_text}
+use Rattle.run_laws.specs.Trials.{Law, one_row_each, one_history, orders, answers, greatest_serves, tickets, ticket_order, warmings, Keeps, one_warming, two_warming, add_a, document_a, asked_x, add_commit_query, row, added_at, committed_at, served, found_once, worked, worked_text}
 
 -- the numbers of a trial's row are those of its outcome
 pub shows : (client number : ℕ) (verb : Verb) (place generation ticket : Option ℕ) (o : Outcome) → Shows one_warming (row client number verb place generation ticket o) o
@@ -49,7 +49,7 @@ module _ (acquired acquired_then : ℕ) (from : Option (ℕ × ℕ)) (ticket : �
   pub found_history : Keeps one_warming add_commit_query (found_once acquired acquired_then from ticket) one_history
   found_history = search rules
 
-  pub found_orders : Keeps one_warming add_commit_query (found_once acquired acquired_then from ticket) clients_orders
+  pub found_orders : Keeps one_warming add_commit_query (found_once acquired acquired_then from ticket) orders
   found_orders = search rules
 
   -- the second searcher sees the document, and is current at place 4
@@ -106,7 +106,7 @@ pub lawful_by : (c : Config) (script : List Line) (o : Output) → ((law : Law) 
 lawful_by c script o keeps = record {
   answers_each = keeps one_row_each;
   one_history = keeps one_history;
-  keeps_order = keeps clients_orders;
+  keeps_order = keeps orders;
   answered = keeps answers;
   greatest_serves = keeps greatest_serves;
   tickets = keeps tickets;
@@ -117,7 +117,7 @@ lawful_by c script o keeps = record {
 worked_keeps : (law : Law) → Keeps one_warming add_commit_query worked law
 worked_keeps one_row_each = found_rows 1 1 (Some (1, 0)) 0
 worked_keeps one_history = found_history 1 1 (Some (1, 0)) 0
-worked_keeps clients_orders = found_orders 1 1 (Some (1, 0)) 0
+worked_keeps orders = found_orders 1 1 (Some (1, 0)) 0
 worked_keeps answers = found_answers 1 1 (Some (1, 0)) 0
 worked_keeps greatest_serves = found_serves 1 1 (Some (1, 0)) 0
 worked_keeps tickets = search rules

@@ -208,3 +208,9 @@ pub record Lawful (c : Config) (script : List Line) (o : Output) : Type 0 where
   pub tickets : AllByRecursion (CountsTickets (tell (calls_of script) o.requests) o) o.searchers
   pub ticket_order : KeepsTicketOrder o (tell (calls_of script) o.requests)
   pub warmings : TellsWarmings c o o.searchers
+
+-- no request of a lawful output tells a place below p
+abbrev pub NoLowerPlaceIsTold : ℕ → Type 0
+NoLowerPlaceIsTold p =
+    (c : Config) (script : List Line) (o : Output) → Lawful c script o →
+    AllByRecursion (λ r. IfSome r.place (λ place. p ≤ place)) o.requests

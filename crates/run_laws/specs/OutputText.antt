@@ -2,7 +2,7 @@
 use Rattle.std.specs.Prelude.{◌≡◌, ℕ, List, [], ◌∷◌, ◌++◌, Bool, true, false, if◌then◌else◌, Option, Some, None, codes, decimal}
 use Rattle.std.specs.List.{flat_map}
 use Rattle.json.specs.Print.{quoted}
-use Rattle.serde_json.specs.Data.{object, Members, no_members, member}
+use Rattle.serde_json.specs.Data.{Data, object, Members, no_members, member}
 use Rattle.serde_json.specs.Written.{comma_if, compact_text}
 use Rattle.run_laws.specs.Rows.{RequestRow, SearcherRow, Output}
 
@@ -62,3 +62,18 @@ written_members (member name d ms) = (name, compact_text d) ∷ written_members 
 -- the text is that of a JSON object and a line feed
 abbrev pub IsObjectLine : List ℕ → Type 0
 IsObjectLine text = (ms : Members) × (text ≡ compact_text (object ms) ++ 10 ∷ [])
+
+-- the line of some members is the compact text of their object, and a line feed
+abbrev pub MembersLineIsObject : Type 0
+MembersLineIsObject =
+    (ms : Members) → object_line (written_members ms) ≡ compact_text (object ms) ++ 10 ∷ []
+
+-- so is a request's line, where its reply is the text of some data
+abbrev pub RequestLineIsObject : Type 0
+RequestLineIsObject =
+    (r : RequestRow) (reply : Data) →
+    r.reply ≡ compact_text reply → IsObjectLine (object_line (request_members r))
+
+-- and a searcher's
+abbrev pub SearcherLineIsObject : Type 0
+SearcherLineIsObject = (s : SearcherRow) → IsObjectLine (object_line (searcher_members s))

@@ -23,7 +23,7 @@ use Rattle.run_laws.specs.Lawful.{AnswersEach, IsOneHistory, KeepsOrder, IsAnswe
 pub data Law : Type 0 where
   one_row_each : Law
   one_history : Law
-  clients_orders : Law
+  orders : Law
   answers : Law
   greatest_serves : Law
   tickets : Law
@@ -38,7 +38,7 @@ told_of script o = tell (calls_of script) o.requests
 abbrev pub Keeps : Config → List Line → Output → Law → Type 0
 Keeps c script o one_row_each = AnswersEach c script o
 Keeps c script o one_history = IsOneHistory (told_of script o) o
-Keeps c script o clients_orders = Each (KeepsOrder o) [] (told_of script o)
+Keeps c script o orders = Each (KeepsOrder o) [] (told_of script o)
 Keeps c script o answers = Each (IsAnswered c (told_of script o) o) [] (told_of script o)
 Keeps c script o greatest_serves = AllByRecursion (ServesUnlessOlder o) o.searchers
 Keeps c script o tickets = AllByRecursion (CountsTickets (told_of script o) o) o.searchers
@@ -375,8 +375,8 @@ abbrev pub document_b : Document
 document_b = record { values = (key.Str (codes "b") ∷ []) ∷ (key.Str (codes "x") ∷ []) ∷ []; id = codes "b" }
 
 -- the reply has as many documents as it must, but another one
-abbrev pub reply_with_another_document : Output
-reply_with_another_document = record {
+abbrev pub another_document : Output
+another_document = record {
   requests = added_at 1 1 2 ∷ committed_at 1 2 3 2 ∷ row 1 3 query None (Some 2) (Some 0) (found asked_x (record { found = 1; docs = document_b ∷ [] })) ∷ [];
   searchers = first 1 ∷ searcher 2 3 4 true 1 (Some (1, 0)) ∷ [];
 }
@@ -444,8 +444,8 @@ abbrev pub served_first : ℕ → ℕ → ℕ → RequestRow
 served_first client number ticket = row client number query None (Some 1) (Some ticket) (found asked_x (answer [] asked_x))
 
 -- the later phase's query has the lower ticket
-abbrev pub phases_tickets_descend : Output
-phases_tickets_descend = record { requests = served_first 1 1 1 ∷ served_first 2 3 0 ∷ []; searchers = first 2 ∷ [] }
+abbrev pub phases_descend : Output
+phases_descend = record { requests = served_first 1 1 1 ∷ served_first 2 3 0 ∷ []; searchers = first 2 ∷ [] }
 
 -- client 1 queries behind its add at place 3, and client 2 before its add at place 2, but with the greater ticket
 abbrev pub tickets_cross : Output
@@ -455,8 +455,8 @@ tickets_cross = record {
 }
 
 -- a query before an opening has the greater ticket than the warming behind it
-abbrev pub warming_ticket_crosses : Output
-warming_ticket_crosses = record {
+abbrev pub warming_crosses : Output
+warming_crosses = record {
   requests = served_first 1 1 1 ∷ committed_at 1 2 2 2 ∷ [];
   searchers = first 2 ∷ searcher 2 2 3 true 0 (Some (1, 0)) ∷ [];
 }

@@ -3,7 +3,7 @@
 ghost use Rattle.std.specs.Prelude.{◌≡◌, ◌∷◌, [], map};
 ghost use Rattle.run_laws.specs.Lawful.{Lawful};
 ghost use Rattle.run_laws.specs.OutputText.{output_text};
-ghost use Rattle.run_laws.specs.Trials.{BreaksAlone, one_row_each, one_history, clients_orders, answers, greatest_serves, tickets, ticket_order, warmings, one_warming, two_warming, add_commit_query, two_adds, adds_of_two, adds_in_phases, bad_add, one_commit, two_commits, one_query, two_queries, queries_and_commit, query_then_commit, commits_in_turn, one_add, commit_then_add, commit_then_phase, worked, worked_text};
+ghost use Rattle.run_laws.specs.Trials.{BreaksAlone, one_row_each, one_history, orders, answers, greatest_serves, tickets, ticket_order, warmings, one_warming, two_warming, add_commit_query, two_adds, adds_of_two, adds_in_phases, bad_add, one_commit, two_commits, one_query, two_queries, queries_and_commit, query_then_commit, commits_in_turn, one_add, commit_then_add, commit_then_phase, worked, worked_text};
 ghost use Rattle.run_laws.specs.Trials as trial;
 
 /// A document is added, committed and found: the output is lawful, the query's row alone tells a
@@ -66,25 +66,25 @@ pub fn descending_openings_are_unlawful()
 /// A client's later update has the greater place.
 pub fn swapped_places_are_unlawful()
     ensures unlawful { Lawful one_warming two_adds trial.places_are_swapped → ⊥ }
-    ensures alone { BreaksAlone one_warming two_adds trial.places_are_swapped clients_orders }
+    ensures alone { BreaksAlone one_warming two_adds trial.places_are_swapped orders }
 {}
 
 /// An update of a later phase has the greater place.
 pub fn swapped_phases_are_unlawful()
     ensures unlawful { Lawful one_warming adds_in_phases trial.phases_are_swapped → ⊥ }
-    ensures alone { BreaksAlone one_warming adds_in_phases trial.phases_are_swapped clients_orders }
+    ensures alone { BreaksAlone one_warming adds_in_phases trial.phases_are_swapped orders }
 {}
 
 /// A client's requests come behind the end of the searcher for which it has waited.
 pub fn client_that_does_not_wait_is_unlawful()
     ensures unlawful { Lawful one_warming commit_then_add trial.client_did_not_wait → ⊥ }
-    ensures alone { BreaksAlone one_warming commit_then_add trial.client_did_not_wait clients_orders }
+    ensures alone { BreaksAlone one_warming commit_then_add trial.client_did_not_wait orders }
 {}
 
 /// The requests of a phase come behind the ends of all searchers that were opened before it.
 pub fn phase_that_does_not_wait_is_unlawful()
     ensures unlawful { Lawful one_warming commit_then_phase trial.phase_did_not_wait → ⊥ }
-    ensures alone { BreaksAlone one_warming commit_then_phase trial.phase_did_not_wait clients_orders }
+    ensures alone { BreaksAlone one_warming commit_then_phase trial.phase_did_not_wait orders }
 {}
 
 /// An accepted add has a place.
@@ -155,8 +155,8 @@ pub fn reply_of_another_view_is_unlawful()
 
 /// A reply has the documents that were found, and not others in their number.
 pub fn reply_with_another_document_is_unlawful()
-    ensures unlawful { Lawful one_warming add_commit_query trial.reply_with_another_document → ⊥ }
-    ensures alone { BreaksAlone one_warming add_commit_query trial.reply_with_another_document answers }
+    ensures unlawful { Lawful one_warming add_commit_query trial.another_document → ⊥ }
+    ensures alone { BreaksAlone one_warming add_commit_query trial.another_document answers }
 {}
 
 /// A query is served from no searcher before that for which its client has waited.
@@ -197,8 +197,8 @@ pub fn ticket_past_acquired_is_unlawful()
 
 /// The tickets of one generation rise from phase to phase.
 pub fn descending_tickets_of_phases_are_unlawful()
-    ensures unlawful { Lawful one_warming trial.queries_in_phases trial.phases_tickets_descend → ⊥ }
-    ensures alone { BreaksAlone one_warming trial.queries_in_phases trial.phases_tickets_descend answers }
+    ensures unlawful { Lawful one_warming trial.queries_in_phases trial.phases_descend → ⊥ }
+    ensures alone { BreaksAlone one_warming trial.queries_in_phases trial.phases_descend answers }
 {}
 
 /// A query has no lower ticket than one that was served before it, as the places around the two show.
@@ -209,8 +209,8 @@ pub fn crossing_tickets_are_unlawful()
 
 /// Nor has a warming, between the opening and the end of its searcher.
 pub fn crossing_ticket_of_warming_is_unlawful()
-    ensures unlawful { Lawful one_warming query_then_commit trial.warming_ticket_crosses → ⊥ }
-    ensures alone { BreaksAlone one_warming query_then_commit trial.warming_ticket_crosses ticket_order }
+    ensures unlawful { Lawful one_warming query_then_commit trial.warming_crosses → ⊥ }
+    ensures alone { BreaksAlone one_warming query_then_commit trial.warming_crosses ticket_order }
 {}
 
 /// A searcher above the first is warmed from one.
