@@ -1,4 +1,5 @@
 pub mod Tellings
 pub mod Agreement
 pub mod Serial
+pub mod Laws
 pub mod Trials

@@ -11,6 +11,7 @@ use Rattle.registry_machine.specs.Machine.{Limits}
 use Rattle.registry_machine.specs.Legal.{Legal}
 use Rattle.run_laws.specs.Rows.{Verb, add, query, commit, RequestRow, SearcherRow, Output}
 use Rattle.run_laws.specs.Calls.{Call, calls_of}
+use Rattle.run_laws.specs.Lawful.{Lawful}
 use Rattle.run_laws.specs.Trials.{one_warming, add_a, find_x, document_a, row, added_at, committed_at, served, first, searcher}
 use Rattle.run_history.specs.Tellings.{Reading, Telling, Life}
 use Rattle.run_history.specs.Agreement.{IsTelling, TellsOnce, AreSearchers, StandInOrder, AreWarmed, CarryViews, HasReply, IsReleased}
@@ -51,6 +52,10 @@ Keeps h ts lives released = IsReleased limits h
 abbrev pub output : List Telling → List Life → Output
 output ts lives = record { requests = map (λ t. t.told.row) ts; searchers = map (λ s. s.row) lives }
 
+-- rows that aren't lawful for the script
+abbrev pub IsUnlawful : List Line → List Telling → List Life → Type 0
+IsUnlawful script ts lives = Lawful one_warming script (output ts lives) → ⊥
+
 -- a history and rows of a script that break this premise and keep every other
 pub record BreaksAlone (script : List Line) (h : List Step) (ts : List Telling) (lives : List Life) (premise : Premise) : Type 0 where
   pub legal : Legal limits h
@@ -89,6 +94,10 @@ life row opened ended warmed = record { row = row; opened = opened; ended = ende
 
 abbrev pub first_life : ℕ → Life
 first_life acquired = life (first acquired) 0 1 None
+
+-- the first searcher alone, which nobody acquired
+abbrev pub unused : List Life
+unused = first_life 0 ∷ []
 
 -- ---- rows: a row has a place, and tells nothing
 
