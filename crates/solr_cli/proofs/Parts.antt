@@ -2,8 +2,8 @@
 use Rattle.std.proofs.Common.{◌≡◌, sym, ◌∙◌, ap, ℕ, List, [], ◌++◌, length, take, drop, append_assoc, append-nil, subst, Option, Result, Ok, Err, OnErr, OnOk, IsErr, Bool, true, false, option_map, ◌≤◌, Some, None, refl}
 use Rattle.std.proofs.Math.Seq.{take-append_seam}
 use Rattle.std.proofs.lemmas.List.{take-append-drop}
-use Rattle.std.specs.Io.KnownBytes.{Appends}
-use Rattle.std.proofs.KnownBytes.{Appends-trans}
+use Rattle.std.specs.Io.KnownBytes.{Appends, Keeps}
+use Rattle.std.proofs.KnownBytes.{Appends-kept, Appends-trans}
 use Rattle.std.proofs.lemmas.Bool.{false≢true}
 use Rattle.rt_edge.specs.Faults.{HasCause, Rose}
 use Rattle.rt_edge.specs.Flushes.{FlushFlushes, IsTold}
@@ -19,6 +19,11 @@ part_of a b text done rest e h = (length done, subst (λ t. Appends a b t) (sym 
 
 pub whole_part : (a b : Option (List ℕ)) (text : List ℕ) → Appends a b text → AppendsPart a b text
 whole_part a b text h = part_of a b text text [] (sym (append-nil text)) h
+
+-- all of the text was appended, and nothing since
+pub whole_kept : {T E : Type 0} (r : Result T E) (a b c : Option (List ℕ)) (text : List ℕ) → Appends a b text → Keeps b c → OnErr r (AppendsPart a c text)
+whole_kept (Ok x) a b c text h k = tt
+whole_kept (Err e) a b c text h k = whole_part a c text (Appends-kept a b c text h k)
 
 pub on_err : {T E : Type 0} (r : Result T E) (P : Type 0) → P → OnErr r P
 on_err (Ok x) P p = tt

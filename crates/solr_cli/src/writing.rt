@@ -22,6 +22,7 @@ pub(crate) fn write_all<K: Sink>(out: &mut K, text: &[u8]) -> Result<(), Failed>
 }
 
 // Writes all of a text, and flushes once. After a fault a front of the text was written.
+#[tactic(auto, using(crate::proofs::Parts::whole_kept, crate::proofs::Parts::flushed_behind, crate::proofs::Parts::cause_behind))]
 pub(crate) fn write_text<K: Sink>(out: &mut K, text: &[u8]) -> Result<(), Failed>
     ensures ok { OnOk result (Appends (K.held out.old) (K.held out.new) text.now) }
     ensures err { OnErr result (AppendsPart (K.held out.old) (K.held out.new) text.now) }
