@@ -3,12 +3,13 @@ use Rattle.std.proofs.Common.{◌≡◌, ℕ, zero, suc, ◌+◌, ◌-◌, ◌^�
 use Rattle.std.specs.Prelude.{slice_get}
 use Rattle.std.specs.Option.{option_map_or, ForSome}
 use Rattle.std.specs.Map.{lookup, lookup_entry, remove_entry}
-use Rattle.lru.specs.LruCache.{LruCache, put_entries, displaced}
+use Rattle.lru.specs.LruCache.{LruCache, lru_cache, put_entries, displaced}
 use Rattle.cache_machine.specs.Laws.{weight_of}
 use Rattle.cache_machine.specs.Machine.{brought_first, light_front}
 use Rattle.cache_machine.proofs.Fronts.{light_front-weighs, length-light_front}
 use Rattle.cache_machine.proofs.Keys.{length-found, weight-found, length-brought, weight-brought}
 use Rattle.cache_cells.specs.Bounded.{IsBounded, put_first_of}
+use Rattle.cache_cells.specs.Steps.{pushed}
 
 module _ {K V : Type 0} where
   removed-none : (t : K → Bool) (es : List (K × V)) → lookup_entry t es ≡ None → remove_entry t es ≡ es
@@ -98,13 +99,13 @@ module _ {K V : Type 0} where
     displaced-some w v p few some out = displaced-weighs w v (Some p) few some out
 
   -- an entry that is brought first changes no bound
-  pub bounded_brought : (w : V → ℕ) (eq : K → K → Bool) (k : K) (size : ℕ) (greatest : Option ℕ) (total : ℕ) (es : List (K × V))
-      → IsBounded w size greatest total es → IsBounded w size greatest total (brought_first eq k es)
-  bounded_brought w eq k size greatest total es h = record {
+  pub bounded_brought : (w : V → ℕ) (eq : K → K → Bool) (k : K) (greatest : Option ℕ) (total : ℕ) (c : LruCache K V)
+      → IsBounded w greatest total c → IsBounded w greatest total (lru_cache (brought_first eq k c.entries) c.cap)
+  bounded_brought w eq k greatest total c h = record {
     some = h.some;
     small = h.small;
-    few = subst (λ n. n ≤ size) (sym (length-brought eq k es)) h.few;
-    weighed = subst (λ n. ForSome greatest (λ most. (total ≡ n) × (total ≤ most))) (sym (weight-brought w eq k es)) h.weighed;
+    few = subst (λ n. n ≤ c.cap) (sym (length-brought eq k c.entries)) h.few;
+    weighed = subst (λ n. ForSome greatest (λ most. (total ≡ n) × (total ≤ most))) (sym (weight-brought w eq k c.entries)) h.weighed;
   }
 
   length-take-most : (n : ℕ) (es : List (K × V)) → length (take n es) ≤ n
@@ -114,7 +115,7 @@ module _ {K V : Type 0} where
 
   -- what is pushed within a greatest weight keeps every bound
   pub bounded_pushed : (w : V → ℕ) (eq : K → K → Bool) (k : K) (v : V) (c : LruCache K V) (most : ℕ) → 0 < c.cap → c.cap < 2 ^ 32
-      → let after : List (K × V) = light_front w most (put_first_of eq k v c) in IsBounded w c.cap (Some most) (weight_of w after) after
+      → let after : LruCache K V = pushed eq w most k v c in IsBounded w (Some most) (weight_of w after.entries) after
   bounded_pushed w eq k v c most some small = record {
     some = some;
     small = small;

@@ -5,12 +5,15 @@ use Rattle.std.specs.Map.{remove_entry}
 use Rattle.lru.specs.LruCache.{LruCache}
 use Rattle.cache_machine.specs.Laws.{weight_of}
 
--- There are at most `size` entries, and where there is a greatest weight, the remembered one is theirs and not greater.
-pub record IsBounded {K V : Type 0} (weight : V → ℕ) (size : ℕ) (greatest : Option ℕ) (total : ℕ) (es : List (K × V)) : Type 0 where
-  pub some : 0 < size
-  pub small : size < 2 ^ 32
-  pub few : length es ≤ size
-  pub weighed : ForSome greatest (λ most. (total ≡ weight_of weight es) × (total ≤ most))
+-- There are at most so many entries as the cap says, and where there is a greatest weight, the
+-- remembered one is theirs and not greater.
+pub record IsBounded {K V : Type 0} (weight : V → ℕ) (greatest : Option ℕ) (total : ℕ)
+    (c : LruCache K V) : Type 0 where
+  pub some : 0 < c.cap
+  pub small : c.cap < 2 ^ 32
+  pub few : length c.entries ≤ c.cap
+  pub weighed :
+      ForSome greatest (λ most. (total ≡ weight_of weight c.entries) × (total ≤ most))
 
 -- the first entry, and what a function makes of those behind it
 abbrev pub first_with : {X : Type 0} → (List X → List X) → List X → List X

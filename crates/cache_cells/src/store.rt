@@ -1,9 +1,8 @@
 ghost use Rattle.std.specs.Prelude.{◌≡◌, ◌+◌, ◌-◌, ◌<◌, ◌≤◌, ℕ, true, length, take, drop, IfOk, OnOk, OnErr, IsSome, None};
 ghost use Rattle.std.specs.Map.Iter.{ShowsInOrder, deref_pair};
-ghost use Rattle.lru.specs.LruCache.{lru_cache};
-ghost use Rattle.cache_machine.specs.Machine.{nothing_kept, with_entries, brought_first, served, stored, light_front};
+ghost use Rattle.cache_machine.specs.Machine.{nothing_kept, stored};
 ghost use Rattle.cache_machine.specs.Laws.{weight_of};
-ghost use Rattle.cache_cells.specs.Bounded.{first_with, put_first_of};
+ghost use Rattle.cache_cells.specs.Steps.{hit_of, used, after_put, pushed, with_light_rest, light_weight, without_last};
 
 use crate::Value;
 use lru::{Iter, LruCache};
@@ -25,14 +24,15 @@ pub struct Store<K: Eq + Hash + Drop, V: Value> {
 impl<K: Eq + Hash + Drop, V: Value> Model for Store<K, V> {
     ghost use Rattle.cache_machine.specs.Machine.{Kept, kept_code};
     ghost use Rattle.cache_cells.specs.Bounded.{IsBounded};
+    ghost use Rattle.cache_cells.specs.Steps.{kept_of};
 
     ghost Value = { Kept K V };
 
     ghost coded = { kept_code K.code V.code };
 
-    ghost view = { λ s. record { size = s.entries.cap; greatest = s.greatest; entries = s.entries.entries } };
+    ghost view = { λ s. kept_of s.entries s.greatest };
 
-    ghost invariant = { λ s. IsBounded V.weight s.entries.cap s.greatest s.total s.entries.entries };
+    ghost invariant = { λ s. IsBounded V.weight s.greatest s.total s.entries };
 }
 
 impl<K: Eq + Hash + Drop, V: Value> Store<K, V> {
@@ -68,10 +68,10 @@ impl<K: Eq + Hash + Drop, V: Value> Store<K, V> {
     ///
     /// Where memory is wanting for the value, nothing changed.
     pub fn get(&mut self, key: &K, need: u64) -> Result<Option<V>, AllocError>
-        ensures value { IfOk result (λ v. v ≡ served K.eq (V.serves need) key.now self.old.entries) }
-        ensures hit { IfOk result (λ v. IsSome v → self.new ≡ with_entries self.old (brought_first K.eq key.now self.old.entries)) }
+        ensures value { IfOk result (λ v. v ≡ hit_of K.eq (V.serves need) key.now self.old) }
+        ensures hit { IfOk result (λ v. IsSome v → self.new ≡ used K.eq key.now self.old) }
         ensures missed { IfOk result (λ v. v ≡ None → self.new ≡ self.old) }
-        ensures cause { OnErr result (IsSome (served K.eq (V.serves need) key.now self.old.entries)) }
+        ensures cause { OnErr result (IsSome (hit_of K.eq (V.serves need) key.now self.old)) }
         ensures no_memory { OnErr result (self.new ≡ self.old) }
     {
         let value = match self.entries.peek(key) {
@@ -113,7 +113,7 @@ fn put_first<K: Eq + Hash + Drop, V: Value>(
     requires same { (x y : K) → K.eq x y ≡ true → x ≡ y }
     requires few { length entries.old.entries ≤ entries.old.cap }
     requires some { 0 < entries.old.cap }
-    ensures first { OnOk result (entries.new ≡ lru_cache (put_first_of K.eq key value entries.old) entries.old.cap) }
+    ensures first { OnOk result (entries.new ≡ after_put K.eq key value entries.old) }
     ensures no_memory { OnErr result (entries.new ≡ entries.old) }
 {
     match entries.put(key, value) {
@@ -123,28 +123,28 @@ fn put_first<K: Eq + Hash + Drop, V: Value>(
 }
 
 // Puts the pair first, in place of one with its key, and drops the least recently used until all weigh at most
-// `greatest` again. Tells what they weigh. Where memory is wanting, nothing changed.
+// `most` again. Tells what they weigh. Where memory is wanting, nothing changed.
 fn push_within<K: Eq + Hash + Drop, V: Value>(
     entries: &mut LruCache<K, V>,
     key: K,
     value: V,
     weight: u64,
     total: u64,
-    greatest: u64,
+    most: u64,
 ) -> Result<u64, AllocError>
     requires same { (x y : K) → K.eq x y ≡ true → x ≡ y }
     requires few { length entries.old.entries ≤ entries.old.cap }
     requires some { 0 < entries.old.cap }
     requires weighs { total ≡ weight_of V.weight entries.old.entries }
-    requires fits { total ≤ greatest }
+    requires fits { total ≤ most }
     requires weight { weight ≡ V.weight value }
-    requires light { weight ≤ greatest }
-    ensures first { let after = put_first_of K.eq key value entries.old in OnOk result (entries.new ≡ lru_cache (light_front V.weight greatest after) entries.old.cap) }
+    requires light { weight ≤ most }
+    ensures first { OnOk result (entries.new ≡ pushed K.eq V.weight most key value entries.old) }
     ensures weight { IfOk result (λ n. n ≡ weight_of V.weight entries.new.entries) }
     ensures no_memory { OnErr result (entries.new ≡ entries.old) }
 {
     let rest = push_first(entries, key, value, total)?;
-    Ok(lighten(entries, rest, greatest - weight) + weight)
+    Ok(lighten(entries, rest, most - weight) + weight)
 }
 
 // Puts the pair first, in place of one with its key, and tells what the others weigh that have room beside it, of all
@@ -159,7 +159,7 @@ fn push_first<K: Eq + Hash + Drop, V: Value>(
     requires few { length entries.old.entries ≤ entries.old.cap }
     requires some { 0 < entries.old.cap }
     requires weighs { total ≡ weight_of V.weight entries.old.entries }
-    ensures first { OnOk result (entries.new ≡ lru_cache (put_first_of K.eq key value entries.old) entries.old.cap) }
+    ensures first { OnOk result (entries.new ≡ after_put K.eq key value entries.old) }
     ensures rest { IfOk result (λ n. n ≡ weight_of V.weight (drop 1 entries.new.entries)) }
     ensures no_memory { OnErr result (entries.new ≡ entries.old) }
 {
@@ -189,8 +189,8 @@ fn lighten<K: Eq + Hash + Drop, V: Value>(
 ) -> u64
     requires some { 0 < length entries.old.entries }
     requires weighs { rest ≡ weight_of V.weight (drop 1 entries.old.entries) }
-    ensures dropped { entries.new ≡ lru_cache (first_with (light_front V.weight most) entries.old.entries) entries.old.cap }
-    ensures rest { result ≡ weight_of V.weight (light_front V.weight most (drop 1 entries.old.entries)) }
+    ensures dropped { entries.new ≡ with_light_rest V.weight most entries.old }
+    ensures rest { result ≡ light_weight V.weight most (drop 1 entries.old.entries) }
 {
     while rest > most {
         rest = drop_last(entries, rest);
@@ -202,7 +202,7 @@ fn lighten<K: Eq + Hash + Drop, V: Value>(
 fn drop_last<K: Eq + Hash + Drop, V: Value>(entries: &mut LruCache<K, V>, rest: u64) -> u64
     requires others { 1 < length entries.old.entries }
     requires weighs { rest ≡ weight_of V.weight (drop 1 entries.old.entries) }
-    ensures front { entries.new ≡ lru_cache (take (length entries.old.entries - 1) entries.old.entries) entries.old.cap }
+    ensures front { entries.new ≡ without_last entries.old }
     ensures weighed { result ≡ weight_of V.weight (drop 1 entries.new.entries) }
 {
     match entries.pop_lru() {

@@ -37,7 +37,10 @@ module _ {K V : Type 0} where
 
   -- nothing is kept, and nobody owns a key
   abbrev pub empty_cache : ℕ → Option ℕ → ℕ → Cache K V
-  empty_cache size greatest seats = record { kept = nothing_kept size greatest; pending = replicate seats None }
+  empty_cache size greatest seats = record {
+    kept = nothing_kept size greatest;
+    pending = replicate seats None;
+  }
 
   -- with other entries
   abbrev pub with_entries : Kept K V → List (K × V) → Kept K V
@@ -53,11 +56,13 @@ module _ {K V : Type 0} where
     -- the longest front of the entries that weighs at most `most`
     abbrev pub light_front : ℕ → List (K × V) → List (K × V)
     light_front most [] = []
-    light_front most (e ∷ es) = if nat_le (weight e.1) most then e ∷ light_front (most - weight e.1) es else []
+    light_front most (e ∷ es) =
+        if nat_le (weight e.1) most then e ∷ light_front (most - weight e.1) es else []
 
     -- the longest front of at most `size` entries that weighs at most the greatest weight, where there is one
     abbrev pub cut : ℕ → Option ℕ → List (K × V) → List (K × V)
-    cut size greatest es = option_map_or (λ most. light_front most (take size es)) greatest (take size es)
+    cut size greatest es =
+        option_map_or (λ most. light_front most (take size es)) greatest (take size es)
 
   -- what is answered, by the value that serves, if any, and by the owner of the key, if any
   abbrev pub answer_by : K → Option V → Option ℕ → Look K V
@@ -89,7 +94,9 @@ module _ {K V : Type 0} where
     look_answer serves k c = answer_by k (served serves k c.kept.entries) (owner_of eq k c.pending)
 
     abbrev pub after_answer : K → ℕ → Cache K V → Look K V → Cache K V
-    after_answer k seat c (Hit v) = record c { kept = with_entries c.kept (brought_first k c.kept.entries) }
+    after_answer k seat c (Hit v) = record c {
+      kept = with_entries c.kept (brought_first k c.kept.entries);
+    }
     after_answer k seat c (Join j owner) = c
     after_answer k seat c Own = record c { pending = slice_set c.pending seat (Some k) }
 
@@ -105,7 +112,9 @@ module _ {K V : Type 0} where
   abbrev pub finished : (K → K → Bool) → (V → ℕ) → ℕ → V → Bool → Cache K V → Cache K V
   finished eq weight seat v keep c =
       let after = released seat c in
-      option_map_or (λ k. if keep then record after { kept = stored eq weight k v c.kept } else after) (owned_by c seat) after
+      option_map_or
+      (λ k. if keep then record after { kept = stored eq weight k v c.kept } else after)
+      (owned_by c seat) after
 
   -- the most recently used keys, at most n
   abbrev pub recent_keys : ℕ → Kept K V → List K
@@ -115,8 +124,10 @@ module _ {K V : Type 0} where
 
   abbrev pub kept_code : Coded K → Coded V → Coded (Kept K V)
   kept_code k v =
-      code_by (ℕ × (Option ℕ × List (K × V))) (coded× coded_ℕ (coded× (coded_option coded_ℕ) (coded_list (coded× k v))))
-      (λ c. (c.size, (c.greatest, c.entries))) (λ p. record { size = p.0; greatest = p.1.0; entries = p.1.1 }) (λ _. refl)
+      code_by (ℕ × (Option ℕ × List (K × V)))
+      (coded× coded_ℕ (coded× (coded_option coded_ℕ) (coded_list (coded× k v))))
+      (λ c. (c.size, (c.greatest, c.entries)))
+      (λ p. record { size = p.0; greatest = p.1.0; entries = p.1.1 }) (λ _. refl)
 
   abbrev pub cache_code : Coded K → Coded V → Coded (Cache K V)
   cache_code k v =

@@ -27,7 +27,8 @@ IsHit Own = ⊥
 module _ {K V : Type 0} (eq : K → K → Bool) (weight : V → ℕ) where
   -- The call may be answered so and leave this state. Without memory a look-up that would hit leaves all as it was, and a finish stores nothing.
   abbrev pub Allows : Cache K V → Call K V → Answer K V → Cache K V → Type 0
-  Allows c (look k serves seat) (looked a) next = (a ≡ look_answer eq serves k c) × (next ≡ after_look eq serves k seat c)
+  Allows c (look k serves seat) (looked a) next =
+      (a ≡ look_answer eq serves k c) × (next ≡ after_look eq serves k seat c)
   Allows c (look k serves seat) no_memory next = IsHit (look_answer eq serves k c) × (next ≡ c)
   Allows c (finish seat v keep) done next = next ≡ finished eq weight seat v keep c
   Allows c (finish seat v keep) no_memory next = next ≡ released seat c
@@ -39,4 +40,5 @@ module _ {K V : Type 0} (eq : K → K → Bool) (weight : V → ℕ) where
   -- the calls with their answers lead from one state to the other
   abbrev pub IsRun : List (Call K V × Answer K V) → Cache K V → Cache K V → Type 0
   IsRun [] from to = to ≡ from
-  IsRun (step ∷ steps) from to = (next : Cache K V) × Allows from step.0 step.1 next × IsRun steps next to
+  IsRun (step ∷ steps) from to =
+      (next : Cache K V) × Allows from step.0 step.1 next × IsRun steps next to

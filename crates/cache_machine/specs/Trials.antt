@@ -30,11 +30,17 @@ two_turned = (2, listed 4 4) ∷ (1, listed 2 9) ∷ []
 
 -- at most two entries, of any weight
 abbrev pub holding : Entries → List (Option ℕ) → Cache ℕ Listed
-holding es pending = record { kept = record { size = 2; greatest = None; entries = es }; pending = pending }
+holding es pending = record {
+  kept = record { size = 2; greatest = None; entries = es };
+  pending = pending;
+}
 
 -- at most two entries, which weigh at most 8
 abbrev pub weighing : Entries → List (Option ℕ) → Cache ℕ Listed
-weighing es pending = record { kept = record { size = 2; greatest = Some 8; entries = es }; pending = pending }
+weighing es pending = record {
+  kept = record { size = 2; greatest = Some 8; entries = es };
+  pending = pending;
+}
 
 abbrev pub idle : List (Option ℕ)
 idle = None ∷ None ∷ []
@@ -50,6 +56,18 @@ owned_twice k = Some k ∷ Some k ∷ []
 -- seat 1 alone owns it
 abbrev pub owned_by_other : ℕ → List (Option ℕ)
 owned_by_other k = None ∷ Some k ∷ []
+
+-- these entries, and nobody owns a key
+abbrev pub unowned : Entries → Cache ℕ Listed
+unowned es = holding es idle
+
+-- the same, where the weight is bounded
+abbrev pub weighed : Entries → Cache ℕ Listed
+weighed es = weighing es idle
+
+-- these entries, and seat 0 owns the key
+abbrev pub owning : ℕ → Entries → Cache ℕ Listed
+owning k es = holding es (owned k)
 
 -- the call may be answered so
 abbrev pub Allowed : Cache ℕ Listed → Call ℕ Listed → Answer ℕ Listed → Cache ℕ Listed → Type 0
@@ -70,6 +88,22 @@ gives v = finish 0 v true
 abbrev pub gives_unkept : Listed → Call ℕ Listed
 gives_unkept v = finish 0 v false
 
+-- it gives one of one, or so many of nine
+abbrev pub gives_one : Call ℕ Listed
+gives_one = gives (listed 1 1)
+
+abbrev pub gives_one_unkept : Call ℕ Listed
+gives_one_unkept = gives_unkept (listed 1 1)
+
+abbrev pub gives_four : Call ℕ Listed
+gives_four = gives (listed 4 9)
+
+abbrev pub gives_seven : Call ℕ Listed
+gives_seven = gives (listed 7 9)
+
+abbrev pub gives_eight : Call ℕ Listed
+gives_eight = gives (listed 8 9)
+
 abbrev pub hit : Listed → Answer ℕ Listed
 hit v = looked (Hit v)
 
@@ -82,7 +116,8 @@ own = looked Own
 -- a key is owned, joined, finished, hit and told
 abbrev pub story : List (Call ℕ Listed × Answer ℕ Listed)
 story =
-    (asks 7 2, own) ∷ (look 7 (serves 2) 0, join 7 1) ∷ (finish 1 (listed 2 5) true, done) ∷ (look 7 (serves 2) 0, hit (listed 2 5))
+    (asks 7 2, own) ∷ (look 7 (serves 2) 0, join 7 1)
+    ∷ (finish 1 (listed 2 5) true, done) ∷ (look 7 (serves 2) 0, hit (listed 2 5))
     ∷ (look 7 (serves 3) 0, own) ∷ (give_up 0, done) ∷ (recent 3, keys (7 ∷ [])) ∷ []
 
 abbrev pub StoryIsRun : Type 0
