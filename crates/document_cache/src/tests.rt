@@ -1,7 +1,4 @@
-//! The cache beside a plain list that is written down from the rules alone, on drawn calls, and a worked row.
-ghost use Rattle.std.specs.Prelude.{◌≤◌, ◌<◌};
-ghost use Rattle.std.specs.Option.{ForSome};
-
+//! Worked rows: the order of use, sizes and weights.
 use super::*;
 use doc_model::Doc;
 use field_schema::{NoMemory, Schema};
@@ -11,8 +8,13 @@ use std::sync::Arc;
 use std::test::Fail;
 
 // A schema of a unique key and a field of many values.
-const SCHEMA: &str =
-    r#"{"fields":[{"name":"id","type":"string"},{"name":"tags","type":"string","multiValued":true}],"uniqueKey":"id"}"#;
+const SCHEMA: &str = r#"{
+    "fields": [
+        {"name": "id", "type": "string"},
+        {"name": "tags", "type": "string", "multiValued": true}
+    ],
+    "uniqueKey": "id"
+}"#;
 
 // Documents of one to five values.
 const BODIES: [&str; 5] = [
@@ -23,70 +25,6 @@ const BODIES: [&str; 5] = [
     r#"{"id":"k","tags":["x","y","x","y"]}"#,
 ];
 
-// The rules on a plain list: documents by their numbers, with how many values they have.
-#[derive(Drop)]
-struct Plain {
-    size: usize,
-    weight: Option<u64>,
-    entries: Vec<(u32, u64)>,
-}
-
-impl Plain {
-    fn look(&mut self, doc: u32) -> Result<Option<u64>, NoMemory> {
-        match self.entries.iter().position(|entry| entry.0 == doc) {
-            Some(at) => {
-                let entry = self.entries.remove(at);
-                self.entries.insert(0, entry)?;
-                Ok(Some(entry.1))
-            }
-            None => Ok(None),
-        }
-    }
-
-    fn put(&mut self, doc: u32, count: u64) -> Result<(), NoMemory> {
-        let greatest = self.weight.unwrap_or(u64::MAX);
-        if count < greatest {
-            if let Some(at) = self.entries.iter().position(|entry| entry.0 == doc) {
-                self.entries.remove(at);
-            }
-            self.entries.insert(0, (doc, count))?;
-            self.cut(greatest);
-        }
-        Ok(())
-    }
-
-    // Keeps the longest front within both bounds.
-    fn cut(&mut self, greatest: u64) {
-        let mut left = greatest;
-        let mut kept = self.entries.len();
-        for (at, entry) in self.entries.iter().enumerate() {
-            if at == self.size || left <= entry.1 {
-                kept = at;
-                break;
-            }
-            left -= entry.1 + 1;
-        }
-        self.entries.truncate(kept);
-    }
-}
-
-// Numbers that are drawn one after another.
-#[derive(Drop)]
-struct Draws(u64);
-
-impl Draws {
-    // A number below `end`.
-    fn below(&mut self, end: u32) -> u32
-        requires { 0 < end }
-    {
-        self.0 = self
-            .0
-            .wrapping_mul(6_364_136_223_846_793_005)
-            .wrapping_add(1_442_695_040_888_963_407);
-        ((self.0 >> 33) % u64::from(end)) as u32
-    }
-}
-
 // How many values the document has that a look-up finds.
 fn look(cells: &mut DocCells, doc: u32) -> Result<Option<u64>, NoMemory> {
     match cells.look(doc)? {
@@ -95,39 +33,64 @@ fn look(cells: &mut DocCells, doc: u32) -> Result<Option<u64>, NoMemory> {
     }
 }
 
-// The number of the first drawn look-up that is answered otherwise than on the list.
-fn first_difference(
-    alloc: Global,
+// A document of so many values is put under a number, or a number is looked up, with how many values it should have.
+#[derive(Clone, Copy)]
+enum Call {
+    Put(u32, usize),
+    Look(u32, Option<u64>),
+}
+
+// The number of the first of these calls that is not answered so.
+fn first_wrong(
+    cells: &mut DocCells,
     docs: &[Arc<Doc>],
-    size: u32,
-    weight: Option<u64>,
-) -> Result<Option<u32>, NoMemory>
-    requires size { (0 < size) × (size ≤ 4096) }
-    requires weight { ForSome weight (λ most. 0 < most) }
-{
-    let mut cells = DocCells::new(alloc, size, weight)?;
-    let mut plain = Plain {
-        size: size as usize,
-        weight,
-        entries: Vec::new(alloc),
-    };
-    let mut draws = Draws(u64::from(size));
-    for turn in 0..300u32 {
-        let number = draws.below(7);
-        if look(&mut cells, number)? != plain.look(number)? {
-            return Ok(Some(turn));
-        }
-        let (other, count) = (draws.below(7), draws.below(5));
-        if let Some(doc) = docs.get(count as usize) {
-            cells.put(other, Arc::try_clone(doc)?)?;
-            plain.put(other, u64::from(count) + 1)?;
+    rows: &[Call],
+) -> Result<Option<usize>, NoMemory> {
+    for (at, call) in rows.iter().enumerate() {
+        match call {
+            Call::Put(number, count) => {
+                if let Some(doc) = docs.get(count.saturating_sub(1)) {
+                    cells.put(*number, Arc::try_clone(doc)?)?;
+                }
+            }
+            Call::Look(number, wanted) => {
+                if look(cells, *number)? != *wanted {
+                    return Ok(Some(at));
+                }
+            }
         }
     }
     Ok(None)
 }
 
+// Of three documents in a cache of two the one that was found last stays beside the new one, which another replaces.
+const TWO: [Call; 9] = [
+    Call::Put(10, 1),
+    Call::Put(11, 2),
+    Call::Look(10, Some(1)),
+    Call::Put(12, 3),
+    Call::Look(11, None),
+    Call::Look(10, Some(1)),
+    Call::Put(12, 5),
+    Call::Look(12, Some(5)),
+    Call::Look(10, Some(1)),
+];
+
+// Where the greatest weight is 5, documents of one and two values fill it, one of five changes nothing, and another
+// of one value takes the place of the least recently used.
+const LIGHT: [Call; 8] = [
+    Call::Put(1, 1),
+    Call::Put(2, 2),
+    Call::Put(3, 5),
+    Call::Look(3, None),
+    Call::Look(2, Some(2)),
+    Call::Put(4, 1),
+    Call::Look(1, None),
+    Call::Look(2, Some(2)),
+];
+
 #[test]
-fn calls_are_as_on_a_plain_list(rt: HostRuntime) -> Result<(), Fail> {
+fn worked_rows(rt: HostRuntime) -> Result<(), Fail> {
     let alloc = rt.alloc();
     let schema = Schema::read(alloc, &Value::from_str(alloc, SCHEMA)?)?;
     let mut docs = Vec::new(alloc);
@@ -135,15 +98,8 @@ fn calls_are_as_on_a_plain_list(rt: HostRuntime) -> Result<(), Fail> {
         docs.push(Arc::new(alloc, Doc::read(alloc, &schema, body)?)?)?;
     }
     let mut two = DocCells::new(alloc, 2, None)?;
-    for (number, doc) in [10u32, 11, 12, 13, 14].into_iter().zip(docs.as_slice()) {
-        two.put(number, Arc::try_clone(doc)?)?;
-    }
-    for (number, wanted) in [(10u32, None), (12, None), (14, Some(5)), (13, Some(4))] {
-        assert_eq!(rt; look(&mut two, number)?, wanted, "number {number}");
-    }
-    for (size, weight) in [(1, None), (4, None), (4, Some(12)), (6, Some(5))] {
-        let difference = first_difference(alloc, docs.as_slice(), size, weight)?;
-        assert_eq!(rt; difference, None, "size {size}, weight {weight:?}");
-    }
+    assert_eq!(rt; first_wrong(&mut two, docs.as_slice(), &TWO)?, None);
+    let mut light = DocCells::new(alloc, 4, Some(5))?;
+    assert_eq!(rt; first_wrong(&mut light, docs.as_slice(), &LIGHT)?, None);
     Ok(())
 }
