@@ -19,7 +19,9 @@ HasFilters key filters = (q : Query) → Contains key.filters q ↔ Contains fil
 
 -- by the query, then by the filters, then by the sort
 abbrev pub result_key_cmp : ResultKey → ResultKey → Ordering
-result_key_cmp = then_cmp (then_cmp (on (λ k. k.q) query_cmp) (on (λ k. k.filters) queries_cmp)) (on (λ k. k.sort) sort_cmp)
+result_key_cmp =
+    then_cmp (then_cmp (on (λ k. k.q) query_cmp) (on (λ k. k.filters) queries_cmp))
+    (on (λ k. k.sort) sort_cmp)
 
 abbrev pub result_key_eq : ResultKey → ResultKey → Bool
 result_key_eq a b = is_eq (result_key_cmp a b)
@@ -29,14 +31,23 @@ abbrev pub result_key_fed : ResultKey → HashWrites
 result_key_fed k = query_fed k.q ++ fed.slice query_fed k.filters ++ sort_fed k.sort
 
 pub result_key_cmp_total : IsTotalOrder result_key_cmp
-result_key_cmp_total = then_total (then_total (on_total (λ (k : ResultKey). k.q) query_cmp_total) (on_total (λ (k : ResultKey). k.filters) queries_cmp_total)) (on_total (λ (k : ResultKey). k.sort) sort_cmp_total)
+result_key_cmp_total =
+    let by_q = on_total (λ (k : ResultKey). k.q) query_cmp_total in
+    let by_filters = on_total (λ (k : ResultKey). k.filters) queries_cmp_total in
+    then_total (then_total by_q by_filters) (on_total (λ (k : ResultKey). k.sort) sort_cmp_total)
 
 -- keys that the order does not tell apart are one
 pub result_key_cmp-same : (a b : ResultKey) → result_key_cmp a b ≡ Equal → a ≡ b
 result_key_cmp-same a b e =
-    let outer : (ordering_then (query_cmp a.q b.q) (queries_cmp a.filters b.filters) ≡ Equal) × (sort_cmp a.sort b.sort ≡ Equal) = both_Equal _ _ e in
-    let inner : (query_cmp a.q b.q ≡ Equal) × (queries_cmp a.filters b.filters ≡ Equal) = both_Equal _ _ outer.0 in
-    λ i. record { q = query_cmp-same a.q b.q inner.0 i; filters = queries_cmp-same a.filters b.filters inner.1 i; sort = sort_cmp-same a.sort b.sort outer.1 i }
+    let by_both = ordering_then (query_cmp a.q b.q) (queries_cmp a.filters b.filters) in
+    let outer : (by_both ≡ Equal) × (sort_cmp a.sort b.sort ≡ Equal) = both_Equal _ _ e in
+    let inner : (query_cmp a.q b.q ≡ Equal) × (queries_cmp a.filters b.filters ≡ Equal) =
+    both_Equal _ _ outer.0 in
+    λ i. record {
+      q = query_cmp-same a.q b.q inner.0 i;
+      filters = queries_cmp-same a.filters b.filters inner.1 i;
+      sort = sort_cmp-same a.sort b.sort outer.1 i;
+    }
 
 pub result_key_eq-same : (a b : ResultKey) → result_key_eq a b ≡ true → a ≡ b
 result_key_eq-same a b e = result_key_cmp-same a b ((Equal-is (result_key_cmp a b)).0 e)

@@ -18,5 +18,5 @@ abbrev pub after_result_look : ResultKey → ℕ → ℕ → Results → Results
 after_result_look key need seat c = after_look result_key_eq (serves need) key seat c
 
 -- an entry is kept where it lists at most so many
-abbrev pub result_finished : ℕ → Entry → ℕ → Results → Results
-result_finished seat e most c = finished result_key_eq result_weight seat e (is_short most e) c
+abbrev pub result_given : ℕ → Entry → ℕ → Results → Results
+result_given seat e most c = finished result_key_eq result_weight seat e (is_short most e) c

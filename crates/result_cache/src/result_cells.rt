@@ -4,7 +4,7 @@ ghost use Rattle.std.specs.Arc.{arc_value};
 ghost use Rattle.cache_machine.specs.Machine.{empty_cache, owned_by, released, recent_keys};
 ghost use Rattle.cache_machine.specs.Runs.{IsHit};
 ghost use Rattle.result_cache.specs.Looks.{look_of};
-ghost use Rattle.result_cache.specs.Results.{result_answer, after_result_look, result_finished};
+ghost use Rattle.result_cache.specs.Results.{result_answer, after_result_look, result_given};
 
 use crate::kept::Kept;
 use crate::{Entry, ResultKey};
@@ -110,7 +110,7 @@ impl ResultCells {
     /// Where memory is wanting, the key is no longer pending, and what is kept is as before.
     pub fn finish(&mut self, seat: u32, entry: Arc<Entry>, most: u32) -> Result<(), NoMemory>
         requires { IsSome (owned_by self.old seat) }
-        ensures after { OnOk result (self.new ≡ result_finished seat (arc_value entry) most self.old) }
+        ensures after { OnOk result (self.new ≡ result_given seat (arc_value entry) most self.old) }
         ensures no_memory { OnErr result (self.new ≡ released seat self.old) }
     {
         let is_short = entry.ids.get().len() <= most as usize;
