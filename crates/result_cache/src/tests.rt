@@ -1,5 +1,5 @@
-//! The cache beside a plain list that is written down from the rules alone, on drawn calls, and worked rows.
-ghost use Rattle.std.specs.Prelude.{◌≤◌, ◌<◌, length, IfSome};
+//! Worked rows: keys, lengths, the order of use.
+ghost use Rattle.std.specs.Prelude.{◌≤◌, ◌<◌};
 ghost use Rattle.std.specs.Option.{ForSome};
 
 use super::*;
@@ -43,96 +43,6 @@ enum Seen {
     Own,
     Given,
     Left,
-}
-
-// The rules on plain lists: queries by their numbers, entries by how many documents they list.
-#[derive(Drop)]
-struct Plain {
-    size: usize,
-    weight: Option<u32>,
-    entries: Vec<(u32, u32)>,
-    pending: Vec<Option<u32>>,
-}
-
-impl Plain {
-    fn new(alloc: Global, size: usize, weight: Option<u32>) -> Result<Plain, NoMemory> {
-        let mut pending = Vec::new(alloc);
-        for _seat in 0..3 {
-            pending.push(None)?;
-        }
-        Ok(Plain {
-            size,
-            weight,
-            entries: Vec::new(alloc),
-            pending,
-        })
-    }
-
-    fn owned(&self, seat: u32) -> Option<u32> {
-        *self.pending.get(seat as usize)?
-    }
-
-    fn set_owned(&mut self, seat: u32, key: Option<u32>) {
-        if let Some(place) = self.pending.get_mut(seat as usize) {
-            *place = key;
-        }
-    }
-
-    // The place of the key's entry, where that lists enough or all.
-    fn place_that_serves(&self, key: u32, need: u32) -> Option<usize>
-        ensures { IfSome result (λ at. at < length self.now.entries.items) }
-    {
-        let at = self.entries.iter().position(|entry| entry.0 == key)?;
-        let listed = self.entries[at].1;
-        if need <= listed || listed == 5 {
-            Some(at)
-        } else {
-            None
-        }
-    }
-
-    fn look(&mut self, key: u32, need: u32, seat: u32) -> Result<Seen, NoMemory> {
-        if let Some(at) = self.place_that_serves(key, need) {
-            let entry = self.entries.remove(at);
-            self.entries.insert(0, entry)?;
-            return Ok(Seen::Hit(entry.1));
-        }
-        for (owner, owned) in self.pending.iter().enumerate() {
-            if *owned == Some(key) && owner < 3 {
-                return Ok(Seen::Join(owner as u32));
-            }
-        }
-        self.set_owned(seat, Some(key));
-        Ok(Seen::Own)
-    }
-
-    fn finish(&mut self, seat: u32, count: u32) -> Result<Seen, NoMemory> {
-        let key = self.owned(seat).unwrap_or(0);
-        self.set_owned(seat, None);
-        let greatest = self.weight.unwrap_or(u32::MAX);
-        if count < greatest && count <= MOST {
-            if let Some(at) = self.entries.iter().position(|entry| entry.0 == key) {
-                self.entries.remove(at);
-            }
-            self.entries.insert(0, (key, count))?;
-            self.cut(greatest);
-        }
-        Ok(Seen::Given)
-    }
-
-    // Keeps the longest front within both bounds.
-    fn cut(&mut self, greatest: u32) {
-        let mut left = greatest;
-        let mut kept = self.entries.len();
-        for (at, entry) in self.entries.iter().enumerate() {
-            if at == self.size || left <= entry.1 {
-                kept = at;
-                break;
-            }
-            left -= entry.1 + 1;
-        }
-        self.entries.truncate(kept);
-    }
 }
 
 // Entries of more documents are not kept.
@@ -192,68 +102,6 @@ fn recent(alloc: Global, cells: &ResultCells, n: u32) -> Result<Vec<u32>, NoMemo
         }
     }
     Ok(numbers)
-}
-
-// Numbers that are drawn one after another.
-#[derive(Drop)]
-struct Draws(u64);
-
-impl Draws {
-    // A number below `end`.
-    fn below(&mut self, end: u32) -> u32
-        requires { 0 < end }
-    {
-        self.0 = self
-            .0
-            .wrapping_mul(6_364_136_223_846_793_005)
-            .wrapping_add(1_442_695_040_888_963_407);
-        ((self.0 >> 33) % u64::from(end)) as u32
-    }
-}
-
-// One drawn call of a seat, and what it should be answered.
-fn step(
-    alloc: Global,
-    cells: &mut ResultCells,
-    plain: &mut Plain,
-    draws: &mut Draws,
-) -> Result<bool, NoMemory> {
-    let seat = draws.below(3);
-    if plain.owned(seat).is_none() {
-        let (key, need) = (draws.below(7), draws.below(7));
-        let seen = look(alloc, cells, key, need, seat)?;
-        return Ok(seen == Some(plain.look(key, need, seat)?));
-    }
-    if draws.below(4) == 0 {
-        plain.set_owned(seat, None);
-        return Ok(end(cells, seat, None)? == Some(Seen::Left));
-    }
-    let count = draws.below(6);
-    let seen = end(cells, seat, Some(entry_of(alloc, count)?))?;
-    Ok(seen == Some(plain.finish(seat, count)?))
-}
-
-// The number of the first drawn call after which the cache and the lists differ.
-fn first_difference(alloc: Global, size: u32, weight: Option<u32>) -> Result<Option<u32>, NoMemory>
-    requires size { (0 < size) × (size ≤ 4096) }
-    requires weight { ForSome weight (λ most. 0 < most) }
-{
-    let mut cells = ResultCells::new(alloc, size, weight.map(u64::from), 3)?;
-    let mut plain = Plain::new(alloc, size as usize, weight)?;
-    let mut draws = Draws(u64::from(size));
-    for turn in 0..300u32 {
-        let same = step(alloc, &mut cells, &mut plain, &mut draws)?;
-        let n = draws.below(5);
-        let keys = recent(alloc, &cells, n)?;
-        let wanted = plain.entries.iter().take(n as usize).map(|entry| entry.0);
-        if !same
-            || !wanted.eq(keys.iter().copied())
-            || cells.len() as usize != plain.entries.len()
-        {
-            return Ok(Some(turn));
-        }
-    }
-    Ok(None)
 }
 
 // A call of a seat: a look-up of a key that needs so much, an entry of so many documents, or none.
@@ -349,15 +197,11 @@ fn keys_agree(alloc: Global, left: &[u32], right: &[u32]) -> Result<bool, NoMemo
 }
 
 #[test]
-fn keys_and_calls_are_as_on_plain_lists(rt: HostRuntime) -> Result<(), Fail> {
+fn worked_rows(rt: HostRuntime) -> Result<(), Fail> {
     let alloc = rt.alloc();
     assert!(rt; keys_agree(alloc, &[5, 2, 5], &[2, 5, 2, 2])?);
     assert!(rt; !keys_agree(alloc, &[5, 2], &[5])?);
     assert!(rt; leads_to(alloc, 2, None, &LENGTHS, &[1])?);
     assert!(rt; leads_to(alloc, 2, None, &ORDER, &[3, 2])?);
-    for (size, weight) in [(1, None), (4, None), (4, Some(10)), (6, Some(7))] {
-        let difference = first_difference(alloc, size, weight)?;
-        assert_eq!(rt; difference, None, "size {size}, weight {weight:?}");
-    }
     Ok(())
 }
