@@ -1,0 +1,5 @@
+pub mod Counts
+pub mod Filters
+pub mod Fits
+pub mod Names
+pub mod Walks
