@@ -1,16 +1,14 @@
 -- Filters that are kept one after another are those of the whole list, each query once.
-use Rattle.std.proofs.Common.{◌≡◌, ℕ, ◌+◌, not, ◌&&◌, ◌||◌, Bool, true, false, cond, List, [], ◌∷◌, ◌++◌, filter, Result, Ok, Err, refl, sym, ap, ◌∙◌}
-use Rattle.std.specs.Bool.{MatchBool, ⊤}
+use Rattle.std.proofs.Common.{◌≡◌, ℕ, not, ◌&&◌, ◌||◌, Bool, true, false, cond, List, [], ◌∷◌, ◌++◌, filter, Result, Ok, refl, sym, ap, ◌∙◌}
 use Rattle.std.proofs.lemmas.List.{append_assoc, append-nil}
 use Rattle.std.proofs.lemmas.List.Folds.{list_any-append}
-use Rattle.query_tree.specs.declared.query.Query.{Query}
 use Rattle.query_tree.specs.Order.{query_eq}
 use Rattle.query_tree.specs.QueryLaws.{query_eq-same}
 use Rattle.query_text.specs.declared.reader.Parsed.{Parsed}
 use Rattle.query_text.specs.Sorts.{and_then}
 use Rattle.request_form.specs.declared.fault.RequestFault.{RequestFault}
 use Rattle.request_form.specs.declared.request.Filter.{Filter}
-use Rattle.request_form.specs.Requests.{filter_of, filters_in, once}
+use Rattle.request_form.specs.Requests.{filters_in, once}
 use Rattle.request_form.specs.Filtering.{has_query, with_filter}
 
 -- the filters behind those before
@@ -27,13 +25,11 @@ differs f g = not (query_eq f.query g.query)
 -- two filters of a list, one after the other
 both : (p q r : Filter → Bool) → ((x : Filter) → r x ≡ (q x && p x)) → (xs : List Filter) → filter p (filter q xs) ≡ filter r xs
 both p q r h [] = refl
-both p q r h (x ∷ xs) =
-    by (q x) (p x) (both p q r h xs) ∙ ap (λ b. cond b (x ∷ filter r xs) (filter r xs)) (sym (h x))
+both p q r h (x ∷ xs) = by (q x) (h x) (both p q r h xs)
   where
-    by : (a b : Bool) → filter p (filter q xs) ≡ filter r xs → cond a (cond b (x ∷ filter p (filter q xs)) (filter p (filter q xs))) (filter p (filter q xs)) ≡ cond (a && b) (x ∷ filter r xs) (filter r xs)
-    by true true e = ap (λ ys. x ∷ ys) e
-    by true false e = e
-    by false b e = e
+    by : (a : Bool) → r x ≡ (a && p x) → filter p (filter q xs) ≡ filter r xs → filter p (cond a (x ∷ filter q xs) (filter q xs)) ≡ cond (r x) (x ∷ filter r xs) (filter r xs)
+    by true e more = ap (λ ys. cond (p x) (x ∷ ys) ys) more ∙ ap (λ b. cond b (x ∷ filter r xs) (filter r xs)) (sym e)
+    by false e more = more ∙ ap (λ b. cond b (x ∷ filter r xs) (filter r xs)) (sym e)
 
 -- what is not new is no other
 known : (fs : List Filter) (g : Filter) → has_query fs g.query ≡ true → (h : Filter) → is_new fs h ≡ (differs g h && is_new fs h)
@@ -80,27 +76,3 @@ adding reads n texts fs = and_then (filters_in reads n texts) (λ others. Ok (ad
 
 pub adding_begins : (reads : ℕ → List ℕ → Result Parsed RequestFault) (texts : List (List ℕ)) → adding reads 1 texts [] ≡ and_then (filters_in reads 1 texts) (λ all. Ok (once all))
 adding_begins reads texts = λ i. and_then (filters_in reads 1 texts) (λ others. Ok (added_once others i))
-
-pub adding_ends : (reads : ℕ → List ℕ → Result Parsed RequestFault) (n : ℕ) (fs : List Filter) → adding reads n [] fs ≡ Ok fs
-adding_ends reads n fs = refl
-
-through : (fs : List Filter) (f : Filter) (r : Result (List Filter) RequestFault)
-    → and_then (and_then r (λ others. Ok (f ∷ others))) (λ others. Ok (added fs others)) ≡ and_then r (λ others. Ok (added (with_filter fs f) others))
-through fs f (Ok others) = refl
-through fs f (Err e) = refl
-
-pub adding_goes : (reads : ℕ → List ℕ → Result Parsed RequestFault) (n : ℕ) (text : List ℕ) (texts : List (List ℕ)) (fs : List Filter) (p : Parsed) → reads n text ≡ Ok p
-    → adding reads n (text ∷ texts) fs ≡ adding reads (n + 1) texts (with_filter fs (filter_of p))
-adding_goes reads n text texts fs p is =
-    ap (λ r. and_then (and_then r (λ q. and_then (filters_in reads (n + 1) texts) (λ others. Ok (filter_of q ∷ others)))) (λ others. Ok (added fs others))) is
-    ∙ through fs (filter_of p) (filters_in reads (n + 1) texts)
-
-pub adding_fails : (reads : ℕ → List ℕ → Result Parsed RequestFault) (n : ℕ) (text : List ℕ) (texts : List (List ℕ)) (fs : List Filter) (e : RequestFault) → reads n text ≡ Err e
-    → adding reads n (text ∷ texts) fs ≡ Err e
-adding_fails reads n text texts fs e is =
-    ap (λ r. and_then (and_then r (λ q. and_then (filters_in reads (n + 1) texts) (λ others. Ok (filter_of q ∷ others)))) (λ others. Ok (added fs others))) is
-
--- where a fault is stated, what follows from it is stated
-pub stated_on : (b : Bool) (P Q : Type 0) → (P → Q) → MatchBool b ⊤ P → MatchBool b ⊤ Q
-stated_on true P Q f h = tt
-stated_on false P Q f h = f h

@@ -1,6 +1,7 @@
 -- Requests that read keep their ranges.
 use Rattle.std.proofs.Common.{◌≡◌, ℕ, ◌≤◌, ◌<◌, ◌&&◌, not, Bool, true, false, cond, leb, List, [], ◌∷◌, length, filter, Option, Some, None, Result, Ok, Err, IfOk, ok_or, codes, refl, sym, ap, ◌∙◌, subst, arith}
 use Rattle.std.specs.List.{All, AllPairs}
+use Rattle.std.specs.Str.{all_ascii_digits}
 use Rattle.std.specs.Str.Parse.{digits_value}
 use Rattle.std.proofs.lemmas.Bool.{false≢true}
 use Rattle.std.proofs.lemmas.Bool.Decides.{nat_tests}
@@ -28,7 +29,7 @@ abbrev differs : Filter → Filter → Bool
 differs f g = not (query_eq f.query g.query)
 
 apart : (f g : Filter) → query_eq f.query g.query ≡ false → Differ f g
-apart f g no same = false≢true (sym no ∙ ap (query_eq f.query) (sym same) ∙ query_eq-refl f.query)
+apart f g other same = false≢true (sym other ∙ ap (query_eq f.query) (sym same) ∙ query_eq-refl f.query)
 
 all_apart : (f : Filter) (gs : List Filter) → All (Differ f) (filter (differs f) gs)
 all_apart f [] = All-nil (Differ f)
@@ -54,7 +55,7 @@ count_fits told missing None fits = fits
 count_fits told missing (Some value) fits = by (is_count value) refl
   where
     by : (b : Bool) → is_count value ≡ b → IfOk (ok_or (cond b (Some (digits_value 10 value)) None) told) (λ n. n ≤ 2147483647)
-    by true e = let most : leb (digits_value 10 value) 2147483647 ≡ true = and_right _ _ e in grind (arith, nat_tests)
+    by true e = let most : leb (digits_value 10 value) 2147483647 ≡ true = and_right (leb 1 (length value) && leb (length value) 10 && all_ascii_digits value) (leb (digits_value 10 value) 2147483647) e in grind (arith, nat_tests)
     by false e = tt
 
 -- ---- the request
@@ -84,5 +85,5 @@ request_fits fields d ps =
 
 -- what holds of the value that is stated holds of the one that is given
 pub given_fits : (answer stated : Result Request RequestFault) → Gives is_no_memory answer stated → IfOk stated IsRequest → IfOk answer IsRequest
-given_fits (Ok r) stated gives fits = subst (λ s. IfOk s IsRequest) gives fits
+given_fits (Ok r) stated gives fits = subst (λ (s : Result Request RequestFault). IfOk s IsRequest) gives fits
 given_fits (Err e) stated gives fits = tt

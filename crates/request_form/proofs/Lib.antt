@@ -2,4 +2,3 @@ pub mod Counts
 pub mod Filters
 pub mod Fits
 pub mod Names
-pub mod Walks

@@ -1,8 +1,9 @@
 -- The names of a list of fields, met character by character.
 use Rattle.std.proofs.Common.{◌≡◌, ℕ, Bool, true, false, cond, List, [], ◌∷◌, ◌++◌, map, filter, refl, sym, ap, ◌∙◌, encode_utf8}
 use Rattle.std.specs.List.{slice_split, onto_first}
-use Rattle.std.specs.Str.{chars, encode_utf8_all}
+use Rattle.std.specs.Str.{chars, encode_utf8_all, IsUtf8}
 use Rattle.std.proofs.lemmas.List.{append_assoc, append-nil}
+use Rattle.std.proofs.lemmas.Str.{chars_past_char}
 use Rattle.field_schema.specs.Tokens.{is_filled}
 use Rattle.request_form.specs.Values.{is_separator, names_in}
 
@@ -43,3 +44,22 @@ after-is name (c ∷ cs) = by (is_separator c) (after-is [] cs) (after-is (name 
 
 pub after_is_names : (text : List ℕ) → after [] (chars text) ≡ names_in text
 after_is_names text = after-is [] (chars text) ∙ kept-front (map encode_utf8_all (slice_split is_separator (chars text)))
+
+-- ---- one character
+
+-- a separator ends the name
+pub ends_here : (names found : List (List ℕ)) (name bs rest : List ℕ) (c : ℕ) → IsUtf8 bs → bs ≡ encode_utf8 c ++ rest → is_separator c ≡ true → found ≡ names ++ filter is_filled (name ∷ [])
+    → found ++ after [] (chars rest) ≡ names ++ after name (chars bs)
+ends_here names found name bs rest c utf8 e parts grown =
+    ap (λ f. f ++ after [] (chars rest)) grown
+    ∙ append_assoc names (filter is_filled (name ∷ [])) (after [] (chars rest))
+    ∙ ap (λ b. names ++ cond b (filter is_filled (name ∷ []) ++ after [] (chars rest)) (after (name ++ encode_utf8 c) (chars rest))) (sym parts)
+    ∙ ap (λ cs. names ++ after name cs) (sym (chars_past_char bs rest c utf8 e))
+
+-- another character goes on it
+pub goes_on : (names : List (List ℕ)) (name longer bs rest : List ℕ) (c : ℕ) → IsUtf8 bs → bs ≡ encode_utf8 c ++ rest → is_separator c ≡ false → longer ≡ name ++ encode_utf8 c
+    → names ++ after longer (chars rest) ≡ names ++ after name (chars bs)
+goes_on names name longer bs rest c utf8 e parts grown =
+    ap (λ n. names ++ after n (chars rest)) grown
+    ∙ ap (λ b. names ++ cond b (filter is_filled (name ∷ []) ++ after [] (chars rest)) (after (name ++ encode_utf8 c) (chars rest))) (sym parts)
+    ∙ ap (λ cs. names ++ after name cs) (sym (chars_past_char bs rest c utf8 e))

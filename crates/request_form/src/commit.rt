@@ -21,10 +21,10 @@ pub struct CommitForm {
 impl CommitForm {
     /// The commit that parameters read to, or their first fault.
     ///
-    /// `openSearcher` (else true), `waitSearcher` (else true) and `softCommit` (else false) are `true`, `on`, `yes`,
-    /// `false`, `off` or `no`; else `BadFlag` of the first that is not, in this order. A soft commit is a plain one. Of a
-    /// parameter that stands twice the first counts. `NoMemory` comes only where memory is wanting. It costs the length
-    /// of the parameters.
+    /// `openSearcher` (else true), `waitSearcher` (else true) and `softCommit` (else false) are
+    /// `true`, `on`, `yes`, `false`, `off` or `no`; else `BadFlag` of the first that is not, in
+    /// this order. A soft commit is a plain one. Of a parameter that stands twice the first counts.
+    /// `NoMemory` comes only where memory is wanting. It costs the length of the parameters.
     pub fn read(alloc: Global, params: &str) -> Result<CommitForm, RequestFault>
         ensures { Gives is_no_memory result (commit_of (params_of params.now)) }
     {

@@ -24,10 +24,11 @@ pub enum DeleteForm {
 impl DeleteForm {
     /// The delete that parameters read to, or their first fault.
     ///
-    /// With `id` it is that of the document with this unique key, and no query is read. Else with `query` it is that of
-    /// the documents which the query finds, as [`parse`] reads it with OR and the configuration's field; else the fault
-    /// is `DeleteQuery`. With neither the fault is `BadFlag` of `id`. Of a parameter that stands twice the first counts,
-    /// and other parameters are ignored, `df` and `q.op` too. `NoMemory` comes only where memory is wanting. It costs
+    /// With `id` it is that of the document with this unique key, and no query is read. Else with
+    /// `query` it is that of the documents which the query finds, as [`parse`] reads it with OR and
+    /// the configuration's field; else the fault is `DeleteQuery`. With neither the fault is
+    /// `BadFlag` of `id`. Of a parameter that stands twice the first counts, and other parameters
+    /// are ignored, `df` and `q.op` too. `NoMemory` comes only where memory is wanting. It costs
     /// the length of the parameters.
     pub fn read(
         alloc: Global,

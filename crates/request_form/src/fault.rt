@@ -12,7 +12,8 @@ use std::alloc::Global;
 pub enum RequestFault {
     /// The parameter is no count: one to ten digits, of at most 2,147,483,647.
     BadCount { param: Text },
-    /// The parameter has none of its values. Of a delete, `id` where it has neither `id` nor `query`.
+    /// The parameter has none of its values. Of a delete, `id` where it has neither `id` nor
+    /// `query`.
     BadFlag { param: Text },
     /// A query does not read: `q` where `which` is 0, else that `fq`, counted from 1.
     Query { which: usize, fault: QueryFault },

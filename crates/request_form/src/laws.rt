@@ -12,7 +12,8 @@ pub fn messages_tell_the_fault()
     ensures query { request_message (fault.Query 0 (query.Syntax 6)) ≡ codes "q: Syntax at 6" }
     ensures filter { request_message (fault.Query 1 (query.Unsupported 3))
         ≡ codes "fq 1: Unsupported at 3" }
-    ensures sort { request_message (fault.Sort (sort.NotSortable 0)) ≡ codes "sort: NotSortable at 0" }
-    ensures delete { request_message (fault.DeleteQuery (query.BadNumber 16))
-        ≡ codes "query: BadNumber at 16" }
+    ensures sort { request_message (fault.Sort (sort.NotSortable 0))
+        ≡ codes "sort: NotSortable at 0" }
+    ensures delete { request_message (fault.DeleteQuery (query.BadNumber 6))
+        ≡ codes "query: BadNumber at 6" }
 {}

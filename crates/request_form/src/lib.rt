@@ -1,12 +1,13 @@
-//! The parameters of requests: what a query, a commit and a delete ask for, read from a form, exactly or to the first
-//! fault.
+//! The parameters of requests: what a query, a commit and a delete ask for, read from a form,
+//! exactly or to the first fault.
 //!
 //! - [`Request::read`] reads the parameters of a query.
 //! - [`CommitForm::read`] reads those of a commit.
 //! - [`DeleteForm::read`] reads those of a delete.
 //!
-//! Parameters are a form as browsers send it: `name=value` with `&` between them. A `+` is a space, and `%` and two
-//! digits are a byte; bytes that are no UTF-8 become U+FFFD. Unknown names are ignored.
+//! Parameters are a form as browsers send it: `name=value` with `&` between them. A `+` is a space,
+//! and `%` and two digits are a byte; bytes that are no UTF-8 become U+FFFD. Unknown names are
+//! ignored.
 #![tactic(auto)]
 
 mod commit;

@@ -60,19 +60,22 @@ pub struct Request {
 impl Request {
     /// The request that parameters read to, or their first fault.
     ///
-    /// - `start` (else 0) and `rows` (else 10): one to ten digits, of at most 2,147,483,647; else `BadCount`.
+    /// - `start` (else 0) and `rows` (else 10): one to ten digits, of at most 2,147,483,647; else
+    ///   `BadCount`.
     /// - `sort`: as [`read_sort`] reads it; else `Sort`. Missing, it is empty.
-    /// - `fl`: names with commas or white space between them. Several are one list. No name, or `*` among them, is all
-    ///   stored fields.
+    /// - `fl`: names with commas or white space between them. Several are one list. No name, or `*`
+    ///   among them, is all stored fields.
     /// - `q.op`: `OR`, `or`, `AND` or `and`; else `BadFlag`. Missing, it is OR.
-    /// - `df`: the field of values that name none, in place of the configuration's; none where it names no indexed field.
-    /// - `q`: a query, as [`parse`] reads it; else `Query` with `which` 0. Missing, it is blank and finds nothing.
-    /// - `fq`: the same, for each in its order; else `Query` with its number, from 1, repeated ones counted. Of filters
-    ///   with one query the first stays.
+    /// - `df`: the field of values that name none, in place of the configuration's; none where it
+    ///   names no indexed field.
+    /// - `q`: a query, as [`parse`] reads it; else `Query` with `which` 0. Missing, it is blank and
+    ///   finds nothing.
+    /// - `fq`: the same, for each in its order; else `Query` with its number, from 1, repeated ones
+    ///   counted. Of filters with one query the first stays.
     ///
-    /// The faults are looked at in this order. Of another parameter that stands twice the first counts, and the later
-    /// ones have no fault. `NoMemory` comes only where memory is wanting. It costs the length of the parameters, and of
-    /// each filter a look-up among those before it.
+    /// The faults are looked at in this order. Of another parameter that stands twice the first
+    /// counts, and the later ones have no fault. `NoMemory` comes only where memory is wanting. It
+    /// costs the length of the parameters, and of each filter a look-up among those before it.
     pub fn read(
         alloc: Global,
         schema: &Schema,

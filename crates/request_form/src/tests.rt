@@ -12,8 +12,8 @@ const SCHEMA: &str =
     {"name":"price","type":"plong"},{"name":"t","type":"text_general"},
     {"name":"hid","type":"string","indexed":false}]}"#;
 
-// What a form is of, the form, and what it reads to or its fault. A query is shown as its main query, its filters, its
-// sort, `start`, `rows` and the fields that it lists.
+// What a form is of, the form, and what it reads to or its fault. A query is shown as its main
+// query, its filters, its sort, `start`, `rows` and the fields that it lists.
 const ROWS: &str = r####"query«» =>  0 10
 query«q» =>  0 10
 query«q=» =>  0 10
