@@ -17,7 +17,8 @@ use Rattle.request_form.specs.Requests.{query_told}
 -- the delete of what a query finds, read with OR and the configuration's field
 abbrev pub delete_by : List Field → Defaults → List ℕ → Result DeleteForm RequestFault
 delete_by fields d text =
-    and_then (query_told fault.DeleteQuery (reading fields d.df op.Or d.most text)) (λ p. Ok (delete.Query p.query))
+    and_then (query_told fault.DeleteQuery (reading fields d.df op.Or d.most text))
+    (λ p. Ok (delete.Query p.query))
 
 -- the same, where there is a query
 abbrev pub delete_where : List Field → Defaults → Option (List ℕ) → Result DeleteForm RequestFault
@@ -25,10 +26,12 @@ delete_where fields d None = Err (fault.BadFlag (codes "id"))
 delete_where fields d (Some text) = delete_by fields d text
 
 -- the delete of a document by its unique key, if there is one; then no query is read
-abbrev pub delete_named : List Field → Defaults → Option (List ℕ) → Option (List ℕ) → Result DeleteForm RequestFault
+abbrev pub delete_named : List Field → Defaults → Option (List ℕ) → Option (List ℕ)
+    → Result DeleteForm RequestFault
 delete_named fields d (Some id) query = Ok (delete.Id id)
 delete_named fields d None query = delete_where fields d query
 
 -- the delete, or its first fault
 abbrev pub delete_of : List Field → Defaults → List Param → Result DeleteForm RequestFault
-delete_of fields d ps = delete_named fields d (value_of (codes "id") ps) (value_of (codes "query") ps)
+delete_of fields d ps =
+    delete_named fields d (value_of (codes "id") ps) (value_of (codes "query") ps)

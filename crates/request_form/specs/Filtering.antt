@@ -1,4 +1,4 @@
--- For private clauses alone: filters that are kept one after another, with the set of their queries.
+-- For private clauses alone: filters kept one after another, with the set of their queries.
 use Rattle.std.specs.Prelude.{◌≡◌, List, [], ◌∷◌, ◌++◌, Bool, if◌then◌else◌}
 use Rattle.std.specs.BTreeSet.{BTreeSet, contains}
 use Rattle.std.specs.List.{list_any}

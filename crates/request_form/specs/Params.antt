@@ -6,7 +6,8 @@ use Rattle.form_urlencoded.specs.Form.{raw_pairs, decode}
 use Rattle.field_schema.specs.Bytes.{bytes_eq}
 use Rattle.request_form.specs.declared.params.Param.{Param}
 
--- the text of a name or a value of a form: a `+` is a space, each `%` and its two digits are a byte, and a sequence that is no UTF-8 is U+FFFD
+-- the text of a name or a value of a form: a `+` is a space, `%` and two digits are a byte, and a
+-- sequence that is no UTF-8 is U+FFFD
 abbrev pub form_text : List ℕ → List ℕ
 form_text bytes = utf8_lossy (decode bytes)
 

@@ -43,21 +43,26 @@ sort_by_params fields ps = sort_told (sort_of fields (unwrap_or (value_of (codes
 -- ---- queries
 
 -- a query's fault as a request's
-abbrev pub query_told : (QueryFault → RequestFault) → Result Parsed QueryFault → Result Parsed RequestFault
+abbrev pub query_told : (QueryFault → RequestFault) → Result Parsed QueryFault
+    → Result Parsed RequestFault
 query_told tell (Ok p) = Ok p
 query_told tell (Err e) = Err (if query_text.is_no_memory e then fault.NoMemory else tell e)
 
--- the field of values that name none: the request's, which is none where no indexed field has that name, or else the configuration's
+-- the field of values that name none: the request's, which is none where no indexed field has that
+-- name, or else the configuration's
 abbrev pub default_field : List Field → Defaults → List Param → Option ℕ
-default_field fields d ps = option_map_or (λ name. indexed name fields) (value_of (codes "df") ps) d.df
+default_field fields d ps =
+    option_map_or (λ name. indexed name fields) (value_of (codes "df") ps) d.df
 
 -- what the text of `q`, which is 0, or of the n-th `fq` reads to
 abbrev pub query_in : List Field → Option ℕ → Op → ℕ → ℕ → List ℕ → Result Parsed RequestFault
-query_in fields df o most which text = query_told (fault.Query which) (query_text.reading fields df o most text)
+query_in fields df o most which text =
+    query_told (fault.Query which) (query_text.reading fields df o most text)
 
 -- the main query; the blank one where nothing is said
 abbrev pub main_query : List Field → Option ℕ → Op → ℕ → List Param → Result Parsed RequestFault
-main_query fields df o most ps = query_in fields df o most 0 (unwrap_or (value_of (codes "q") ps) [])
+main_query fields df o most ps =
+    query_in fields df o most 0 (unwrap_or (value_of (codes "q") ps) [])
 
 -- ---- filters
 
@@ -65,10 +70,12 @@ abbrev pub filter_of : Parsed → Filter
 filter_of p = record { query = p.query; cached = p.cached; cost = p.cost }
 
 -- the filters of the n-th text and those behind it, or the first fault
-abbrev pub filters_in : (ℕ → List ℕ → Result Parsed RequestFault) → ℕ → List (List ℕ) → Result (List Filter) RequestFault
+abbrev pub filters_in : (ℕ → List ℕ → Result Parsed RequestFault) → ℕ → List (List ℕ)
+    → Result (List Filter) RequestFault
 filters_in reads n [] = Ok []
 filters_in reads n (text ∷ texts) =
-    and_then (reads n text) (λ p. and_then (filters_in reads (n + 1) texts) (λ others. Ok (filter_of p ∷ others)))
+    and_then (reads n text) (λ p.
+    and_then (filters_in reads (n + 1) texts) (λ others. Ok (filter_of p ∷ others)))
 
 -- each query once, where it stands first
 abbrev pub once : List Filter → List Filter
@@ -76,8 +83,11 @@ once [] = []
 once (f ∷ fs) = f ∷ filter (λ g. not (query_eq f.query g.query)) (once fs)
 
 -- the filters, each `fq` in its turn
-abbrev pub filters_of : List Field → Option ℕ → Op → ℕ → List Param → Result (List Filter) RequestFault
-filters_of fields df o most ps = and_then (filters_in (query_in fields df o most) 1 (values_of (codes "fq") ps)) (λ all. Ok (once all))
+abbrev pub filters_of : List Field → Option ℕ → Op → ℕ → List Param
+    → Result (List Filter) RequestFault
+filters_of fields df o most ps =
+    and_then (filters_in (query_in fields df o most) 1 (values_of (codes "fq") ps))
+    (λ all. Ok (once all))
 
 -- ---- the request
 

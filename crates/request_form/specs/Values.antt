@@ -16,7 +16,8 @@ use Rattle.request_form.specs.declared.params.Param.{Param}
 use Rattle.request_form.specs.Params.{value_of, values_of}
 
 -- what a value reads to, or what is meant where the parameter is missing; else the fault
-abbrev pub read_or : {A : Type 0} → A → (List ℕ → Option A) → RequestFault → Option (List ℕ) → Result A RequestFault
+abbrev pub read_or : {A : Type 0} → A → (List ℕ → Option A) → RequestFault → Option (List ℕ)
+    → Result A RequestFault
 read_or missing reads told None = Ok missing
 read_or missing reads told (Some value) = ok_or (reads value) told
 
@@ -28,7 +29,9 @@ is_among texts value = list_any (bytes_eq value) texts
 
 -- one to ten digits, of a number up to 2,147,483,647
 abbrev pub is_count : List ℕ → Bool
-is_count value = nat_le 1 (length value) && nat_le (length value) 10 && all_ascii_digits value && nat_le (digits_value 10 value) 2147483647
+is_count value =
+    nat_le 1 (length value) && nat_le (length value) 10 && all_ascii_digits value
+    && nat_le (digits_value 10 value) 2147483647
 
 abbrev pub count_in : List ℕ → Option ℕ
 count_in value = if is_count value then Some (digits_value 10 value) else None
@@ -75,7 +78,9 @@ names_in value = filter is_filled (map encode_utf8_all (slice_split is_separator
 
 -- no name, or `*` among them, stands for all stored fields
 abbrev pub shown_by : List (List ℕ) → FieldList
-shown_by names = if length names == 0 || list_any (λ name. bytes_eq name (codes "*")) names then shown.All else shown.Names names
+shown_by names =
+    if length names == 0 || list_any (λ name. bytes_eq name (codes "*")) names then shown.All
+    else shown.Names names
 
 -- the fields that a reply shows: the values of `fl` are one list
 abbrev pub fields_of : List Param → FieldList

@@ -220,7 +220,8 @@ fn add_filter(
     parsed: Parsed,
 ) -> Result<(), NoMemory>
     requires known { Knows seen.old filters.old.items }
-    ensures added { OnOk result (filters.new.items ≡ with_filter filters.old.items (filter_of parsed)) }
+    ensures added { OnOk result
+        (filters.new.items ≡ with_filter filters.old.items (filter_of parsed)) }
     ensures known { OnOk result (Knows seen.new filters.new.items) }
 {
     let is_new = seen.insert(parsed.query.copy(alloc)?)?;

@@ -161,7 +161,8 @@ fn add_names(alloc: Global, names: &mut Vec<Text>, value: &str) -> Result<(), No
 
 // Puts a name that is not empty behind others.
 fn add_name(names: &mut Vec<Text>, name: String) -> Result<(), NoMemory>
-    ensures { OnOk result (names.new.items ≡ names.old.items ++ filter is_filled (string_bytes name ∷ [])) }
+    ensures { OnOk result
+        (names.new.items ≡ names.old.items ++ filter is_filled (string_bytes name ∷ [])) }
 {
     if !name.is_empty() {
         names.push(Text::new(name))?;
