@@ -6,4 +6,5 @@ pub mod SplitOff
 pub mod Gather
 pub mod Opening
 pub mod Making
+pub mod Closing
 pub mod Trials

@@ -1,5 +1,5 @@
 -- Adding a call to the log.
-use Rattle.std.proofs.Common.{◌≡◌, ◌≢◌, ℕ, zero, suc, ◌+◌, ◌<◌, Bool, true, false, true≢false, cond, eq-eqb, ne_eqb, List, [], ◌∷◌, ◌++◌, length, take, Some, None, sym, refl, ap, ◌∙◌, subst, ⊎_elim, arith, append-nil, length-append}
+use Rattle.std.proofs.Common.{◌≡◌, ◌≢◌, ℕ, ◌<◌, Bool, true, false, cond, eq-eqb, ne_eqb, List, [], ◌∷◌, ◌++◌, length, take, Some, sym, refl, ap, ◌∙◌, subst, arith, append-nil, length-append}
 use mathlib.Core.Logic.{dite}
 use native.Mathlib.Decide.{ℕ_discrete}
 use Rattle.std.specs.Prelude.{◌==◌, if◌then◌else◌, slice_get, slice_index_or}
@@ -8,9 +8,10 @@ use Rattle.std.proofs.lemmas.Option.{slice_get_within, get_or_from_slice_get, sl
 use Rattle.view_cells.specs.declared.board.Listing.{Listing}
 use Rattle.view_cells.specs.declared.seat.Seat.{Seat}
 use Rattle.view_cells.specs.Lists.{names}
-use Rattle.view_cells.specs.Seats.{StartsWith, table_of, seat_count, lists_of, IsIdle, IsSole, IsSameSeat, HasJoined, AreSeats}
-use Rattle.view_cells.specs.Trials.{Adds, EachWorked, IsBelow, done_by, AllIdle, AreLeft, ArePair, Worked}
-use Rattle.view_cells.proofs.Numbers.{names_cons, names_here, names_there}
+use Rattle.view_cells.specs.Seats.{StartsWith, lists_of, IsSole, IsSameSeat, HasJoined, AreSeats}
+use Rattle.view_cells.specs.Closing.{AllIdle}
+use Rattle.view_cells.specs.Trials.{Adds, EachWorked, IsBelow, done_by, ArePair, Worked}
+use Rattle.view_cells.proofs.Closing.{got_last, got_before, named_left, named_right}
 
 below_one_more : (most : ℕ) (cs : List (ℕ × ℕ)) (c : ℕ × ℕ) → IsBelow most cs → c.1 < most → IsBelow most (cs ++ c ∷ [])
 below_one_more most [] c all less = (less, tt)
@@ -47,67 +48,12 @@ pub listed : (b : Bool) (cs : List (ℕ × ℕ)) (number n x : ℕ) (new : List 
 listed b cs number n x new own adds is had =
     ap (λ k. done_by k new) (sym is) ∙ added_own b cs number x new adds ∙ ap (λ k. cond b (done_by k cs ++ x ∷ []) (done_by k cs)) is ∙ ap (λ l. cond b (l ++ x ∷ []) l) had
 
-got_last : {A : Type 0} (xs : List A) (x : A) → slice_get (xs ++ x ∷ []) (length xs) ≡ Some x
-got_last [] x = refl
-got_last (y ∷ ys) x = got_last ys x
-
-got_before : {A : Type 0} (xs ys : List A) (i : ℕ) (x : A) → slice_get xs i ≡ Some x → slice_get (xs ++ ys) i ≡ Some x
-got_before [] ys i x e = let p : None ≡ Some x = e in absurd (cc)
-got_before (y ∷ xs) ys zero x e = e
-got_before (y ∷ xs) ys (suc i) x e = got_before xs ys i x e
-
-module _ {E : Type 0} where
-  named_left : (n : ℕ) (xs ys : List (Listing E)) → names n xs ≡ true → names n (xs ++ ys) ≡ true
-  named_left n [] ys has = absurd (true≢false (sym has))
-  named_left n (x ∷ xs) ys has = ⊎_elim (λ e. names_here n x (xs ++ ys) e) (λ h. names_there n x (xs ++ ys) (named_left n xs ys h)) (names_cons n x xs has)
-
-  named_right : (n : ℕ) (xs ys : List (Listing E)) → names n ys ≡ true → names n (xs ++ ys) ≡ true
-  named_right n [] ys has = has
-  named_right n (x ∷ xs) ys has = names_there n x (xs ++ ys) (named_right n xs ys has)
-
 module _ {T W E : Type 0} where
-  -- the last seat, and those before it
-  pub last_of : (all xs : List (Seat T W E)) (last : Seat T W E) → all ≡ xs ++ last ∷ [] → AllIdle all → AreLeft xs last
-  last_of all xs last is idle =
-      let n : ℕ = length xs in
-      let whole : AllIdle (xs ++ last ∷ []) = subst (λ (l : List (Seat T W E)). AllIdle l) is idle in
-      let here = got_last xs last in
-      let l = whole.each n last here in
-      record {
-        each = λ i s e. let e' = got_before xs (last ∷ []) i s e in let w = whole.each i s e' in (w.0, w.1, whole.one_table i n s last e' here);
-        rest = λ m some few.
-            let full : seat_count last ≡ n + 1 = l.2 ∙ length-append xs (last ∷ []) in
-            let same : m ≡ last.number = (let k = l.1 in omega arith) in
-            ap (λ k. names k (lists_of last)) same ∙ last.named;
-        idle = l.0;
-      }
-
-  -- one seat less is left, which was joined into the other
-  pub one_less : (all xs : List (Seat T W E)) (last other t : Seat T W E) → all ≡ xs ++ other ∷ [] → AreLeft all last → HasJoined last other t → AreLeft xs t
-  one_less all xs last other t is left joined =
-      let n : ℕ = length xs in
-      let whole : AreLeft (xs ++ other ∷ []) last = subst (λ (l : List (Seat T W E)). AreLeft l last) is left in
-      let o = whole.each n other (got_last xs other) in
-      let long : length (xs ++ other ∷ []) ≡ n + 1 = length-append xs (other ∷ []) in
-      record {
-        each = λ i s e. let w = whole.each i s (got_before xs (other ∷ []) i s e) in (w.0, w.1, w.2 ∙ sym joined.seat.table);
-        rest = λ m some few. ap (λ (ls : List (Listing E)). names m ls) joined.lists ∙ dite (ℕ_discrete m n)
-            (λ e. named_right m (lists_of last) (lists_of other) (ap (λ k. names k (lists_of other)) (e ∙ sym o.1) ∙ other.named))
-            (λ ne. named_left m (lists_of last) (lists_of other) (whole.rest m (omega arith) (let c = joined.seat.count in omega arith)));
-        idle = joined.idle;
-      }
-
-  -- the seat behind those that are left is at the table, and holds nothing
-  pub next_left : (all xs : List (Seat T W E)) (last other : Seat T W E) → all ≡ xs ++ other ∷ [] → AreLeft all last → IsIdle other × (table_of other ≡ table_of last)
-  next_left all xs last other is left =
-      let whole : AreLeft (xs ++ other ∷ []) last = subst (λ (l : List (Seat T W E)). AreLeft l last) is left in
-      let o = whole.each (length xs) other (got_last xs other) in (o.0, o.2)
-
   -- new seats hold nothing
   new_idle : (view : W) (count : ℕ) (seats : List (Seat T W E)) → AreSeats view count seats → length seats ≡ count → AllIdle seats
   new_idle view count seats new full = record {
-    each = λ i s e. let n = new.each i s e in (n.idle, n.number, n.count ∙ sym full);
-    one_table = new.one_table;
+    each = λ i s e. let n = new.each i s e in record { idle = n.idle; number = n.number; count = n.count ∙ sym full };
+    together = λ i j s t e f. record { table = new.one_table i j s t e f; view = (new.each i s e).view ∙ sym (new.each j t f).view };
   }
 
   -- all seats have worked
@@ -119,9 +65,10 @@ module _ {T W E : Type 0} where
       let within : i < length old = (let l = slice_get_within new i s e in omega arith) in
       (subst (λ (t : Seat T W E). Worked (slice_index_or old i s) t) (get_or_from_slice_get new i s s e) (each i s within), slice_get-get_or old i s within) in
       subst (λ (l : List (Seat T W E)). AllIdle l) (sym is) record {
-        each = λ i s e. let n = now i s e in let o = idle.each i (slice_index_or old i s) n.1 in (n.0.idle, n.0.seat.number ∙ o.1, n.0.seat.count ∙ o.2 ∙ sym long);
-        one_table = λ i j s t e f. let n = now i s e in let m = now j t f in
-            n.0.seat.table ∙ idle.one_table i j (slice_index_or old i s) (slice_index_or old j t) n.1 m.1 ∙ sym m.0.seat.table;
+        each = λ i s e. let n = now i s e in let o = idle.each i (slice_index_or old i s) n.1 in record { idle = n.0.idle; number = n.0.seat.number ∙ o.number; count = n.0.seat.count ∙ o.count ∙ sym long };
+        together = λ i j s t e f. let n = now i s e in let m = now j t f in
+            let k = idle.together i j (slice_index_or old i s) (slice_index_or old j t) n.1 m.1 in
+            record { table = n.0.seat.table ∙ k.table ∙ sym m.0.seat.table; view = n.0.seat.view ∙ k.view ∙ sym m.0.seat.view };
       }
 
   -- the last two of two seats
@@ -135,9 +82,9 @@ module _ {T W E : Type 0} where
       let one' = whole.each (length xs) one o in
       let zero' = whole.each (length ys) first z in
       record {
-        first = (zero'.0, zero'.1 ∙ none);
-        second = (one'.0, one'.1 ∙ long, one'.2 ∙ sym (ap length is) ∙ two);
-        table = whole.one_table (length ys) (length xs) first one z o;
+        first = (zero'.idle, zero'.number ∙ none);
+        second = (one'.idle, one'.number ∙ long, one'.count ∙ sym (ap length is) ∙ two);
+        table = (whole.together (length ys) (length xs) first one z o).table;
       }
 
   -- of two seats, one of which was joined into the other

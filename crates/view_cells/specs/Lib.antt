@@ -4,5 +4,6 @@ pub mod Steps
 pub mod Seats
 pub mod Helds
 pub mod Making
+pub mod Closing
 pub mod Trials
 pub mod Lending

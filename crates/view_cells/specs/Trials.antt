@@ -1,7 +1,7 @@
 -- A log of the seats' calls, for the tests.
-use Rattle.std.specs.Prelude.{◌≡◌, ℕ, ◌<◌, ◌≤◌, ◌==◌, if◌then◌else◌, Bool, cond, List, [], ◌∷◌, ◌++◌, length, slice_get, slice_index_or, Some}
+use Rattle.std.specs.Prelude.{◌≡◌, ℕ, ◌<◌, ◌≤◌, ◌==◌, if◌then◌else◌, Bool, cond, List, [], ◌∷◌, ◌++◌, length, slice_index_or}
 use Rattle.view_cells.specs.declared.seat.Seat.{Seat}
-use Rattle.view_cells.specs.Seats.{table_of, seat_count, view_of, HasNumber, IsIdle, IsSameSeat}
+use Rattle.view_cells.specs.Seats.{table_of, seat_count, view_of, IsIdle, IsSameSeat}
 
 -- each call is below
 abbrev pub IsBelow : ℕ → List (ℕ × ℕ) → Type 0
@@ -30,17 +30,6 @@ module _ {T W E : Type 0} where
   -- each seat has worked
   abbrev pub EachWorked : List (Seat T W E) → List (Seat T W E) → Type 0
   EachWorked old new = (i : ℕ) (d : Seat T W E) → i < length old → Worked (slice_index_or old i d) (slice_index_or new i d)
-
-  -- all seats of one table, in the order of their numbers
-  pub record AllIdle (seats : List (Seat T W E)) : Type 0 where
-    pub each : (i : ℕ) (s : Seat T W E) → slice_get seats i ≡ Some s → IsIdle s × (s.number ≡ i) × (seat_count s ≡ length seats)
-    pub one_table : (i j : ℕ) (s t : Seat T W E) → slice_get seats i ≡ Some s → slice_get seats j ≡ Some t → table_of s ≡ table_of t
-
-  -- the seats that are left, and one into which the others were joined
-  pub record AreLeft (seats : List (Seat T W E)) (other : Seat T W E) : Type 0 where
-    pub each : (i : ℕ) (s : Seat T W E) → slice_get seats i ≡ Some s → IsIdle s × (s.number ≡ i) × (table_of s ≡ table_of other)
-    pub rest : (n : ℕ) → length seats ≤ n → n < seat_count other → HasNumber other n
-    pub idle : IsIdle other
 
   -- the two seats of a table
   pub record ArePair (zero one : Seat T W E) : Type 0 where

@@ -13,6 +13,7 @@ pub struct CellTable;
 impl CellTable {
     ghost use Rattle.std.specs.Prelude.{◌≡◌, ℕ, [], ◌≤◌, length, IfOk};
     ghost use Rattle.view_cells.specs.Seats.{AreSeats};
+    ghost use Rattle.view_cells.specs.Closing.{AllIdle, AllAlone, FitsAll, KeepsEach};
 
     /// Puts a value into a table of its own and gives its seats, which are numbered from 0 and name this view.
     ///
@@ -39,6 +40,23 @@ impl CellTable {
         }
         made.push_reserved(last);
         Ok(made)
+    }
+
+    /// Joins all seats of a table, which are given in the order of their numbers, and gives the value. It
+    /// takes no memory and doesn't wait.
+    pub fn close_all<T: Fits>(mut seats: Vec<Seat<T>>) -> T
+        requires row { AllIdle seats.items }
+        requires some { 1 ≤ length seats.items }
+        ensures fits { FitsAll T.fits seats.items result }
+        ensures lists { AllAlone seats.items → KeepsEach T.entries seats.items result }
+    {
+        let Some(mut one) = seats.pop() else {
+            unreachable!()
+        };
+        while let Some(other) = seats.pop() {
+            one.join(other);
+        }
+        one.close()
     }
 }
 

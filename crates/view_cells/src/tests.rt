@@ -1,7 +1,8 @@
 ghost use Rattle.std.specs.Prelude.{◌≡◌, ◌<◌, ◌++◌, [], ◌∷◌, cond, length, IfSome};
 ghost use Rattle.std.specs.List.{All};
-ghost use Rattle.view_cells.specs.Seats.{IsIdle, IsSameSeat, IsSole, own_list, view_of};
-ghost use Rattle.view_cells.specs.Trials.{Adds, AllIdle, EachWorked, ArePair, IsReady, Worked};
+ghost use Rattle.view_cells.specs.Seats.{IsIdle, IsSameSeat, own_list, view_of};
+ghost use Rattle.view_cells.specs.Trials.{Adds, EachWorked, ArePair, IsReady, Worked};
+ghost use Rattle.view_cells.specs.Closing.{AllIdle};
 
 use crate::{Busy, CellTable, Fits, Seat};
 use std::alloc::Global;
@@ -78,19 +79,6 @@ fn all_rounds<R: Threads + Wait + Sync>(rt: &R, seats: &mut [Seat<Log>])
     thread::for_each_mut(rt, seats, count, &|_, seat| rounds(rt, seat));
 }
 
-// Joins all seats into the last.
-fn gathered(mut seats: Vec<Seat<Log>>) -> Option<Seat<Log>>
-    requires { AllIdle seats.items }
-    ensures idle { IfSome result IsIdle }
-    ensures sole { IfSome result IsSole }
-{
-    let mut last = seats.pop()?;
-    while let Some(other) = seats.pop() {
-        last.join(other);
-    }
-    Some(last)
-}
-
 // Four threads with a seat each, all of whose calls are in the value that the last seat gives.
 fn shared_log<R: Threads + Wait + Sync>(rt: &R, alloc: Global) -> Option<Log> {
     let log = Log {
@@ -100,7 +88,7 @@ fn shared_log<R: Threads + Wait + Sync>(rt: &R, alloc: Global) -> Option<Log> {
         return None;
     };
     all_rounds(rt, seats.as_mut_slice());
-    Some(gathered(seats)?.close())
+    Some(CellTable::close_all(seats))
 }
 
 fn pair_of(mut seats: Vec<Seat<Log>>) -> Option<(Seat<Log>, Seat<Log>)>
