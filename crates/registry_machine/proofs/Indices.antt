@@ -7,6 +7,7 @@ use Rattle.registry_machine.specs.Entries.{opens, registers, ends, acquires, fre
 use Rattle.registry_machine.specs.Machine.{Limits, start, is_in}
 use Rattle.registry_machine.specs.Legal.{Legal}
 use Rattle.registry_machine.specs.Places.{Stands}
+use Rattle.registry_machine.proofs.Lists.{true_and_false}
 use Rattle.registry_machine.proofs.Runs.{state_at, state_past, allowed_at, state_next, lasts_to, always}
 use Rattle.registry_machine.proofs.Steps.{current_or_0, last_rises, acquired_rises, current_rises, stays_current, IsPast, stays_past, IsSkipped, stays_skipped, Sound, sound_start, sound_kept}
 use Rattle.registry_machine.proofs.Slots.{KeepsSlots, HasOnly, IsFreed, slots_start, slots_kept, only_kept, freed_kept, only_after, freed_after}
@@ -49,12 +50,6 @@ module _ {U D L : Type 0} (l : Limits) (h : List (Entry U D L)) (legal : Legal l
       let down : n < m → ⊥ = λ lt. let k = opened_in_order n m g g b a lt in omega (arith, k) in
       grind (arith, up, down)
 
-  -- a generation above the last opened is opened later
-  pub opened_after : (m n g : ℕ) → Stands opens h m g → (state_at l h n).last_opened < g → n ≤ m
-  opened_after m n g a above =
-      let down : m < n → ⊥ = λ lt. let p = opens_at m g a in let r = last_at_rises (suc m) n lt in omega (arith, p.last, r) in
-      grind (arith, down)
-
   pub opened_before : (m n g : ℕ) → Stands opens h m g → g ≤ (state_at l h n).last_opened → m < n
   opened_before m n g a below =
       let up : n ≤ m → ⊥ = λ le. let p = opens_at m g a in let r = last_at_rises n m le in omega (arith, p.next, r) in
@@ -71,26 +66,23 @@ module _ {U D L : Type 0} (l : Limits) (h : List (Entry U D L)) (legal : Legal l
   pub past_at : (m n g : ℕ) → Stands ends h m g → m < n → IsPast (state_at l h n) g
   past_at m n g k lt = lasts_to l (λ s. IsPast s g) (stays_past l g) h (suc m) n lt legal (past_after_end m g k)
 
-  in_and_not : (b : Bool) → b ≡ true → b ≡ false → ⊥
-  in_and_not b x y = grind arith
-
   -- a generation that is past at n was ended before
   pub ended_before : (m n g : ℕ) → Stands ends h m g → IsPast (state_at l h n) g → m < n
   ended_before m n g k past =
-      let up : n ≤ m → ⊥ = λ le. let later : IsPast (state_at l h m) g = lasts_to l (λ s. IsPast s g) (stays_past l g) h n m le legal past in in_and_not (is_in g (state_at l h m).warming) (ends_at m g k).warming later.ended in
+      let up : n ≤ m → ⊥ = λ le. let later : IsPast (state_at l h m) g = lasts_to l (λ s. IsPast s g) (stays_past l g) h n m le legal past in true_and_false (is_in g (state_at l h m).warming) (ends_at m g k).warming later.ended in
       grind (arith, up)
 
   -- one that is warming at n was not ended before
   pub ended_after : (m n g : ℕ) → Stands ends h m g → is_in g (state_at l h n).warming ≡ true → n ≤ m
   ended_after m n g k warming =
-      let down : m < n → ⊥ = λ lt. in_and_not (is_in g (state_at l h n).warming) warming (past_at m n g k lt).ended in
+      let down : m < n → ⊥ = λ lt. true_and_false (is_in g (state_at l h n).warming) warming (past_at m n g k lt).ended in
       grind (arith, down)
 
   -- a generation is ended once
   pub ended_once : (m n g : ℕ) → Stands ends h m g → Stands ends h n g → m ≡ n
   ended_once m n g a b =
-      let up : m < n → ⊥ = λ lt. in_and_not (is_in g (state_at l h n).warming) (ends_at n g b).warming (past_at m n g a lt).ended in
-      let down : n < m → ⊥ = λ lt. in_and_not (is_in g (state_at l h m).warming) (ends_at m g a).warming (past_at n m g b lt).ended in
+      let up : m < n → ⊥ = λ lt. true_and_false (is_in g (state_at l h n).warming) (ends_at n g b).warming (past_at m n g a lt).ended in
+      let down : n < m → ⊥ = λ lt. true_and_false (is_in g (state_at l h m).warming) (ends_at m g a).warming (past_at n m g b lt).ended in
       grind (arith, up, down)
 
   -- and behind its opening

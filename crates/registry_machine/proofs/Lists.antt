@@ -1,10 +1,19 @@
 -- Members of lists of numbers, and lists that ascend.
-use Rattle.std.proofs.Common.{◌≡◌, ◌≢◌, ◌⊎◌, ℕ, ◌<◌, List, [], ◌∷◌, ◌++◌, Bool, true, false, not, cond, ◌&&◌, ◌||◌, ◌==◌, filter, refl, subst, arith}
+use Rattle.std.proofs.Common.{◌≡◌, ◌≢◌, ◌⊎◌, ℕ, ◌<◌, List, [], ◌∷◌, ◌++◌, Bool, true, false, not, cond, ◌&&◌, ◌||◌, ◌==◌, filter, refl, arith}
 use Rattle.std.proofs.lemmas.Grind.{common_steps}
 use Rattle.std.proofs.lemmas.Bool.Decides.{nat_tests}
 use Rattle.std.specs.List.{AllByRecursion}
 use Rattle.registry_machine.specs.Machine.{is_in}
 use Rattle.registry_machine.specs.Orders.{Ascends}
+
+pub true_and_false : (b : Bool) → b ≡ true → b ≡ false → ⊥
+true_and_false b x y = grind arith
+
+pub not_both : (b : Bool) → b ≡ false → b ≡ true → ⊥
+not_both b x y = grind arith
+
+pub false_true : false ≡ true → ⊥
+false_true e = grind arith
 
 pub same_test : (x : ℕ) → (x == x) ≡ true
 same_test x = grind (arith, nat_tests)
@@ -27,9 +36,6 @@ in_last g x xs h = let e = in_append g xs (x ∷ []) in grind (arith, nat_tests,
 
 pub in_last_here : (g : ℕ) (xs : List ℕ) → is_in g (xs ++ g ∷ []) ≡ true
 in_last_here g xs = let e = in_append g xs (g ∷ []) in let s = same_test g in grind (arith, nat_tests, e, s)
-
-pub in_last_before : (g x : ℕ) (xs : List ℕ) → is_in g xs ≡ true → is_in g (xs ++ x ∷ []) ≡ true
-in_last_before g x xs h = let e = in_append g xs (x ∷ []) in grind (arith, nat_tests, e)
 
 pub not_in_last : (g x : ℕ) (xs : List ℕ) → is_in g xs ≡ false → g ≢ x → is_in g (xs ++ x ∷ []) ≡ false
 not_in_last g x xs h n = let e = in_append g xs (x ∷ []) in grind (arith, nat_tests, e)
@@ -54,14 +60,6 @@ not_in_own g xs = let e = in_without g g xs in let s = same_test g in grind (ari
 pub all_from_in : (P : ℕ → Type 0) (xs : List ℕ) → ((g : ℕ) → is_in g xs ≡ true → P g) → AllByRecursion P xs
 all_from_in P [] h = tt
 all_from_in P (x ∷ xs) h = (h x (let s = same_test x in grind (arith, nat_tests, s)), all_from_in P xs (λ g i. h g (grind (arith, nat_tests, i))))
-
-in_head : (P : ℕ → Type 0) (x : ℕ) (xs : List ℕ) → P x → (g : ℕ) → (is_in g xs ≡ true → P g) → (b : Bool) → (x == g) ≡ b → (x == g || is_in g xs) ≡ true → P g
-in_head P x xs h g rest true e i = subst P (test_same x g e) h
-in_head P x xs h g rest false e i = rest (subst (λ b. (b || is_in g xs) ≡ true) e i)
-
-pub in_from_all : (P : ℕ → Type 0) (xs : List ℕ) → AllByRecursion P xs → (g : ℕ) → is_in g xs ≡ true → P g
-in_from_all P [] h g i = absurd (grind arith)
-in_from_all P (x ∷ xs) h g i = in_head P x xs h.0 g (in_from_all P xs h.1 g) (x == g) refl i
 
 -- ---- ascending
 

@@ -7,9 +7,6 @@ use Rattle.registry_machine.specs.Entries.{has_place}
 use Rattle.registry_machine.specs.Places.{rank}
 
 module _ {U D L : Type 0} where
-  pub rank_0 : (h : List (Entry U D L)) → rank h 0 ≡ 0
-  rank_0 h = refl
-
   rank_cons : (e : Entry U D L) (h : List (Entry U D L)) (n : ℕ) → rank (e ∷ h) (suc n) ≡ cond (has_place e) 1 0 + rank h n
   rank_cons e h n = sum_by-cons (λ x. cond (has_place x) 1 0) e (take n h)
 

@@ -6,7 +6,7 @@ use Rattle.registry_machine.specs.declared.entry.Entry.TheVariants.{Open, Finish
 use Rattle.registry_machine.specs.Entries.{frees}
 use Rattle.registry_machine.specs.Machine.{Limits, State, start, is_in, is_some_of, after}
 use Rattle.registry_machine.specs.Legal.{CanOpen, IsAllowed}
-use Rattle.registry_machine.proofs.Lists.{same_test, test_same, test_other, other_test, in_last, in_kept}
+use Rattle.registry_machine.proofs.Lists.{true_and_false, same_test, test_same, test_other, other_test, in_last, in_kept}
 
 -- some slot is open for the generation
 abbrev pub HasSlot : State → ℕ → Type 0
@@ -108,15 +108,12 @@ module _ {U D L : Type 0} (l : Limits) where
       by_test d g true i = absurd (none-some g i)
       by_test d g false i = h.pinned d g i
   slots_kept s (Free x) p h = record {
-    warming = λ g i. same g (h.warming g i) (λ e. in_and_not (is_in x s.warming) (subst (λ y. is_in y s.warming ≡ true) e i) p.not_warming);
+    warming = λ g i. same g (h.warming g i) (λ e. true_and_false (is_in x s.warming) (subst (λ y. is_in y s.warming ≡ true) e i) p.not_warming);
     current = λ g i. same g (h.current g i) (λ e. p.not_current (i ∙ ap Some e));
     pinned = λ c g i. same g (h.pinned c g i) (λ e. p.not_pinned c (i ∙ ap Some e));
     opened = λ slot g i. h.opened slot g (at_free (s.slots slot) x g i).0;
   }
     where
-      in_and_not : (b : Bool) → b ≡ true → b ≡ false → ⊥
-      in_and_not b y z = grind arith
-
       same : (g : ℕ) → HasSlot s g → g ≢ x → (slot : ℕ) × (cond (is_some_of x (s.slots slot)) None (s.slots slot) ≡ Some g)
       same g k n = (k.0, kept_at_free s.slots x k.0 g n k.1)
   slots_kept s _ p h = record { warming = h.warming; current = h.current; pinned = h.pinned; opened = h.opened }

@@ -6,7 +6,7 @@ use Rattle.registry_machine.specs.declared.entry.Entry.TheVariants.{Open, Finish
 use Rattle.registry_machine.specs.Machine.{Limits, State, start, is_in, after}
 use Rattle.registry_machine.specs.Orders.{Ascends}
 use Rattle.registry_machine.specs.Legal.{IsAllowed}
-use Rattle.registry_machine.proofs.Lists.{other_test, in_last, not_in_last, in_kept, not_in_kept, not_in_own, all_from_in, ascends_last, ascends_filter}
+use Rattle.registry_machine.proofs.Lists.{true_and_false, other_test, in_last, not_in_last, in_kept, not_in_kept, not_in_own, all_from_in, ascends_last, ascends_filter}
 
 -- the generation that is current, or 0
 abbrev pub current_or_0 : Option ℕ → ℕ
@@ -22,9 +22,6 @@ pub record IsPast (s : State) (g : ℕ) : Type 0 where
 pub record IsSkipped (s : State) (g : ℕ) : Type 0 where
   pub past : IsPast s g
   pub never : s.current ≢ Some g
-
-in_and_not : (b : Bool) → b ≡ true → b ≡ false → ⊥
-in_and_not b x y = grind arith
 
 -- what is true of each state
 pub record Sound (l : Limits) (s : State) : Type 0 where
@@ -83,7 +80,7 @@ module _ {U D L : Type 0} (l : Limits) where
   stays_skipped g s (Open c u x slot d) p h = record { past = stays_past g s (Open c u x slot d) p h.past; never = h.never }
   stays_skipped g s (Finish x list) p h = record {
     past = stays_past g s (Finish x list) p h.past;
-    never = λ same. in_and_not (is_in g s.warming) (subst (λ y. is_in y s.warming ≡ true) (same_Some x g same) p.warming) h.past.ended;
+    never = λ same. true_and_false (is_in g s.warming) (subst (λ y. is_in y s.warming ≡ true) (same_Some x g same) p.warming) h.past.ended;
   }
   stays_skipped g s (Superseded x by list) p h = record { past = stays_past g s (Superseded x by list) p h.past; never = h.never }
   stays_skipped g s _ p h = record { past = record { opened = h.past.opened; ended = h.past.ended }; never = h.never }

@@ -1,6 +1,7 @@
 -- What a state says of all entries before it, list by list.
 use Rattle.std.proofs.Common.{◌≡◌, ℕ, ◌+◌, ◌<◌, ◌≤◌, List, [], ◌∷◌, ◌++◌, length, fold, Bool, true, false, not, cond, ◌==◌, filter, filter_map, Some, None, refl, sym, ap, ap₂, subst, ◌∙◌, arith, append_assoc}
 use Rattle.std.proofs.lemmas.List.{append-nil}
+use Rattle.std.proofs.lemmas.List.Elements.{filter-append}
 use Rattle.std.proofs.lemmas.Grind.{common_steps}
 use Rattle.std.proofs.lemmas.Bool.Decides.{nat_tests}
 use Rattle.std.specs.List.{AllByRecursion, range_with_len, last_or, cons_option}
@@ -90,14 +91,6 @@ without_none g es (x ∷ xs) h =
     let e : (g == x) ≡ false = other_test g x (λ same. omega (arith, h.0, same)) in
     rw e (ap (λ zs. cond (not (is_in x es)) (x ∷ zs) zs) (without_none g es xs h.1))
 
-filter_append : (p : ℕ → Bool) (xs ys : List ℕ) → filter p (xs ++ ys) ≡ filter p xs ++ filter p ys
-filter_append p [] ys = refl
-filter_append p (x ∷ xs) ys = by_test (p x) (filter_append p xs ys)
-  where
-    by_test : (b : Bool) → filter p (xs ++ ys) ≡ filter p xs ++ filter p ys → cond b (x ∷ filter p (xs ++ ys)) (filter p (xs ++ ys)) ≡ cond b (x ∷ filter p xs) (filter p xs) ++ filter p ys
-    by_test true r = ap (λ zs. x ∷ zs) r
-    by_test false r = r
-
 filter_none : (xs : List ℕ) → filter (λ x. not (is_in x [])) xs ≡ xs
 filter_none [] = refl
 filter_none (x ∷ xs) = ap (λ zs. x ∷ zs) (filter_none xs)
@@ -107,7 +100,7 @@ module _ {U D L : Type 0} (l : Limits) where
   ended_one g h w above =
       let es : List ℕ = filter_map ends h in
       let os : List ℕ = filter_map opens h in
-      filter_append (λ x. not (is_in x es)) (filter (λ x. not (x == g)) w) os ∙ (ap₂ (λ xs ys. xs ++ ys) (sym (without_one g es w)) (sym (without_none g es os above)) ∙ sym (filter_append (λ x. not (is_in x (g ∷ es))) w os))
+      filter-append (λ x. not (is_in x es)) (filter (λ x. not (x == g)) w) os ∙ (ap₂ (λ xs ys. xs ++ ys) (sym (without_one g es w)) (sym (without_none g es os above)) ∙ sym (filter-append (λ x. not (is_in x (g ∷ es))) w os))
 
   -- what is warming was opened and not ended
   pub warming_from : (s : State) (h : List (Entry U D L)) → Sound l s → LegalFrom l s h → (fold after s h).warming ≡ filter (λ x. not (is_in x (filter_map ends h))) (s.warming ++ filter_map opens h)

@@ -5,8 +5,6 @@
 
 mod entry;
 pub mod laws;
-#[cfg(test)]
-mod tests;
 pub mod trials;
 
 pub use entry::Entry;
