@@ -5,6 +5,7 @@ use Rattle.std.proofs.lemmas.Option.{same_Some}
 use Rattle.std.specs.Option.{option_map_or}
 use Rattle.registry_machine.specs.Entries.{registers, ends}
 use Rattle.registry_machine.specs.Places.{rank, Stands}
+use Rattle.registry_machine.proofs.Lists.{not_both, false_true}
 use Rattle.registry_machine.proofs.Runs.{state_at}
 use Rattle.registry_machine.proofs.Ranks.{rank_rises, rank_rises_over}
 use Rattle.registry_machine.proofs.Indices.{sound_at, current_ended, current_was_registered, registered_up_to_current, none_registered, registered_in_order}
@@ -62,14 +63,8 @@ last_is p [] = λ z i r l. i
 last_is p (s ∷ ss) = by_test (s.registered && nat_le s.ended p) refl (last_is p ss)
   where
     by_test : (b : Bool) → (s.registered && nat_le s.ended p) ≡ b → IsLast p ss (last_registered p ss) → IsLast p (s ∷ ss) (cond b (Some (later s (last_registered p ss))) (last_registered p ss))
-    by_test true e k = elim (counted p s true e) [ inl c ↦ last_with p s ss (last_registered p ss) c.1 c.2 k | inr c ↦ absurd (true≢false' c.0) ]
-      where
-        true≢false' : true ≡ false → ⊥
-        true≢false' x = grind arith
-    by_test false e k = elim (counted p s false e) [ inl c ↦ absurd (false≢true c.0) | inr c ↦ last_without p s ss (last_registered p ss) c.1 k ]
-      where
-        false≢true : false ≡ true → ⊥
-        false≢true x = grind arith
+    by_test true e k = elim (counted p s true e) [ inl c ↦ last_with p s ss (last_registered p ss) c.1 c.2 k | inr c ↦ absurd (false_true (sym c.0)) ]
+    by_test false e k = elim (counted p s false e) [ inl c ↦ absurd (false_true c.0) | inr c ↦ last_without p s ss (last_registered p ss) c.1 k ]
 
 -- a registered row that ended last up to p is current there
 current_is : (p : ℕ) (ss : List SearcherRow) (x : SearcherRow) → In x ss → x.registered ≡ true → x.ended ≤ p → ((y : SearcherRow) → In y ss → y.registered ≡ true → y.ended ≤ p → x.ended ≤ y.ended → y.generation ≡ x.generation) → current_at p ss ≡ x.generation
@@ -133,9 +128,6 @@ module _ {U D L : Type 0} (f : Run U D L) where
       let k = life_is f s i in
       let end : Stands ends f.history s.ended g = record { entry = k.end.entry; at = k.end.at; told = k.end.told ∙ ap Some e } in
       absurd (current_was_registered f.limits f.history f.legal n g s.ended now end (λ t. not_both s.row.registered r (k.registered.1 (t ∙ ap Some (sym e)))))
-    where
-      not_both : (b : Bool) → b ≡ false → b ≡ true → ⊥
-      not_both b x y = grind arith
 
   -- what is current at n is so at the last place before it
   pub current_found : (n g p : ℕ) → n ≤ length f.history → (state_at f.limits f.history n).current ≡ Some g → rank f.history n ≡ suc p → current_at p (map (λ s. s.row) f.lives) ≡ g

@@ -1,6 +1,7 @@
 -- Rows and searchers that agree with a history go on to agree where it goes on by what one row tells.
 use Rattle.std.proofs.Common.{◌≡◌, ◌≢◌, ◌⊎◌, ℕ, ◌+◌, ◌<◌, ◌≤◌, List, [], ◌∷◌, ◌++◌, length, take, map, true, false, cond, count_by, filter_map, Option, Some, None, IsSome, refl, sym, ap, ap₂, subst, ◌∙◌, inl, inr, arith, slice_get}
 use Rattle.std.proofs.lemmas.List.{take-append-le, map-append}
+use Rattle.std.proofs.lemmas.List.Elements.{filter_map-append}
 use Rattle.std.proofs.lemmas.Option.{same_Some, none-some, slice_get_within}
 use Rattle.std.specs.List.{AllByRecursion, cons_option}
 use Rattle.search_model.specs.Live.{live}
@@ -23,6 +24,7 @@ use Rattle.run_history.specs.Serial.{ComesLast}
 use Rattle.run_history.proofs.Elements.{In, all_in, all_from, all_append, all_map}
 use Rattle.run_history.proofs.Counts.{count_cons, count_append, count_map, count_none}
 use Rattle.run_history.proofs.Told.{tellings, idle_opened}
+use Rattle.run_history.proofs.Indexed.{EachAt, each_at, IsAcquiredOnce, CarriesView}
 use Rattle.run_history.proofs.Longer.{get_left, get_cases, rank_left, stands_left, stands_cases, stands_within}
 
 -- the same row of a searcher, with the acquires of a history
@@ -106,14 +108,14 @@ module _ {U D L : Type 0} (r : Reading U D) (l : Limits) (c : Config) (h more : 
     pub telling : IsTelling r c (h ++ more) new
     pub reply : HasReply r c (h ++ more) new
     pub covers : ComesLast new.told.call ts
-    pub placed : (i : ℕ) (e : Entry U D L) → slice_get more i ≡ Some e → has_place e ≡ true → IsSome (caller_of e) → i ≡ 0
-    pub acquired : (i g k : ℕ) → Stands acquires more i (g, k) → count_by (tells_at (length h + i)) (new ∷ []) + count_by (warmed_at (length h + i)) extra ≡ 1
+    pub placed : EachAt (λ n e. has_place e ≡ true → IsSome (caller_of e) → n ≡ length h) (length h) more
+    pub acquired : EachAt (IsAcquiredOnce (new ∷ []) extra) (length h) more
     pub generations : map (λ s. s.row.generation) extra ≡ filter_map opens more
     pub each : AllByRecursion (IsLife (h ++ more)) extra
     pub froms : AllByRecursion (λ s. IsFrom (h ++ more) s.row.from s.warmed) extra
     pub within : AllByRecursion IsWarmedWithin extra
     pub behind : AllByRecursion (λ s. (length h ≤ s.opened) × ((n : ℕ) → s.warmed ≡ Some n → length h ≤ n)) extra
-    pub views : (i caller : ℕ) (u : U) (g slot : ℕ) (d : D) → slice_get more i ≡ Some (Open caller u g slot d) → r.docs d ≡ live (changes r (take (length h + i) (h ++ more)))
+    pub views : EachAt (CarriesView r (h ++ more)) (length h) more
     pub released : IsReleased l (h ++ more)
 
   module _ (ts : List Telling) (lives extra : List Life) (new : Telling) (old : Agrees r l c h ts lives) (adds : Adds ts extra new) (legal : Legal l (h ++ more)) where
@@ -198,7 +200,7 @@ module _ {U D L : Type 0} (r : Reading U D) (l : Limits) (c : Config) (h more : 
             let b = old.once.placed n e k placed named above in
             let d = new_elsewhere n (slice_get_within h n e k) in omega (arith, a, b, d)
         out (inr k) =
-            let z = adds.placed k.0 e k.2 placed named in
+            let z = each_at (λ m x. has_place x ≡ true → IsSome (caller_of x) → m ≡ length h) (length h) more adds.placed k.0 e k.2 placed named in
             let here : n ≡ length h = omega (arith, k.1, z) in
             let a = rows_count (length h) in
             let b = no_old_row (length h) (omega arith) in
@@ -217,7 +219,7 @@ module _ {U D L : Type 0} (r : Reading U D) (l : Limits) (c : Config) (h more : 
             let u = new_elsewhere n lt in
             let v = no_extra n lt in omega (arith, o, p, q, u, v)
         out (inr b) =
-            let o = adds.acquired b.0 g k b.2 in
+            let o = each_at (IsAcquiredOnce (new ∷ []) extra) (length h) more adds.acquired b.0 b.2.entry b.2.at (g, k) b.2.told in
             let p = rows_count (length h + b.0) in
             let q = lives_count (length h + b.0) in
             let u = no_old_row (length h + b.0) (omega arith) in
@@ -241,21 +243,13 @@ module _ {U D L : Type 0} (r : Reading U D) (l : Limits) (c : Config) (h more : 
 
     -- ---- searchers
 
-    filter_map_append : (xs ys : List (Entry U D L)) → filter_map opens (xs ++ ys) ≡ filter_map opens xs ++ filter_map opens ys
-    filter_map_append [] ys = refl
-    filter_map_append (x ∷ xs) ys = put (opens x) (filter_map_append xs ys)
-      where
-        put : (o : Option ℕ) → filter_map opens (xs ++ ys) ≡ filter_map opens xs ++ filter_map opens ys → cons_option o (filter_map opens (xs ++ ys)) ≡ cons_option o (filter_map opens xs) ++ filter_map opens ys
-        put None e = e
-        put (Some g) e = ap (λ zs. g ∷ zs) e
-
     same_generations : (ls : List Life) → map (λ s. s.row.generation) (map (recounted (h ++ more)) ls) ≡ map (λ s. s.row.generation) ls
     same_generations [] = refl
     same_generations (s ∷ ls) = ap (λ zs. s.row.generation ∷ zs) (same_generations ls)
 
     searchers_kept : AreSearchers (h ++ more) (map (recounted (h ++ more)) lives ++ extra)
     searchers_kept = record {
-      generations = map-append (λ s. s.row.generation) (map (recounted (h ++ more)) lives) extra ∙ (ap₂ (λ a b. a ++ b) (same_generations lives ∙ old.searchers.generations) adds.generations ∙ sym (filter_map_append h more));
+      generations = map-append (λ s. s.row.generation) (map (recounted (h ++ more)) lives) extra ∙ (ap₂ (λ a b. a ++ b) (same_generations lives ∙ old.searchers.generations) adds.generations ∙ sym (filter_map-append opens h more));
       each = all_append (IsLife (h ++ more)) (map (recounted (h ++ more)) lives) extra (all_map (recounted (h ++ more)) (IsLife (h ++ more)) lives (all_from (λ s. IsLife (h ++ more) (recounted (h ++ more) s)) lives (λ s i. longer_life s (old_life s i)))) adds.each;
     }
 
@@ -333,7 +327,7 @@ module _ {U D L : Type 0} (r : Reading U D) (l : Limits) (c : Config) (h more : 
       where
         out : (slice_get h n ≡ Some (Open caller u g slot d)) ⊎ ((i : ℕ) × (n ≡ length h + i) × (slice_get more i ≡ Some (Open caller u g slot d))) → r.docs d ≡ live (changes r (take n (h ++ more)))
         out (inl k) = old.views n caller u g slot d k ∙ ap (λ x. live (changes r x)) (sym (take-append-le n h more (let lt = slice_get_within h n (Open caller u g slot d) k in omega (arith, lt))))
-        out (inr k) = adds.views k.0 caller u g slot d k.2 ∙ ap (λ m. live (changes r (take m (h ++ more)))) (sym k.1)
+        out (inr k) = each_at (CarriesView r (h ++ more)) (length h) more adds.views k.0 (Open caller u g slot d) k.2 caller u g slot d refl ∙ ap (λ m. live (changes r (take m (h ++ more)))) (sym k.1)
 
     -- the rows with the new one, and the searchers with the new ones, agree with the longer history
     pub extended : Agrees r l c (h ++ more) (ts ++ new ∷ []) (map (recounted (h ++ more)) lives ++ extra)

@@ -14,6 +14,7 @@ pub mod Answering
 pub mod Ordering
 pub mod Laws
 pub mod Longer
+pub mod Indexed
 pub mod Extend
 pub mod Quiet
 pub mod Idle

@@ -223,10 +223,6 @@ module _ {U D L : Type 0} (f : Run U D L) where
       let same = ended s i (test_same s.row.generation l.0.row.generation h ∙ l.2) in
       subst (λ x. (s.row.ended == x) ≡ true) ((life_is f s i).ended ∙ ap (rank f.history) same) (same_test s.row.ended))) ∙ life_count f l.0 l.1
 
-  -- the places of the rows
-  pub told_places : List ℕ
-  told_places = places (output_of f.rows f.lives)
-
   count_of : (p : ℕ) → count_by (λ x. x == p) (places (output_of f.rows f.lives)) ≡ cond (0 == p) 1 0 + count_by (λ s. s.row.ended == p) f.lives + count_by (λ t. passes (λ x. x == p) t.told.row.place) f.rows
   count_of p =
       let A = take 1 (map (λ s. s.opened) (map (λ s. s.row) f.lives)) in

@@ -3,7 +3,7 @@ use Rattle.std.proofs.Common.{◌≡◌, ◌≢◌, ◌⊎◌, ℕ, ◌+◌, ◌
 use Rattle.std.proofs.lemmas.Option.{same_Some, none-some}
 use Rattle.registry_machine.specs.Machine.{Limits, State, start, is_in, is_some_of, after}
 use Rattle.registry_machine.specs.Legal.{LegalFrom}
-use Rattle.registry_machine.proofs.Lists.{same_test, test_same, other_test, in_last_here}
+use Rattle.registry_machine.proofs.Lists.{not_both, same_test, test_same, other_test, in_last_here}
 use Rattle.run_history.specs.Serial.{Stand, start_entries, update_entries, query_entries, opening_entries}
 
 pub record Quiet (s : State) (g k slot : ℕ) : Type 0 where
@@ -95,9 +95,6 @@ module _ (U D L : Type 0) where
         before : (x : ℕ) (b : Bool) → (x == n.slot) ≡ b → (s.slots x ≡ Some n.generation) ⊎ (s.slots x ≡ None)
         before x true e = inl (ap s.slots (test_same x n.slot e) ∙ q.slot_of)
         before x false e = inr (q.others x (λ same. not_both (x == n.slot) e (subst (λ y. (x == y) ≡ true) same (same_test x))))
-          where
-            not_both : (b : Bool) → b ≡ false → b ≡ true → ⊥
-            not_both b u v = grind arith
 
         gone : (x : ℕ) → x ≢ slot → cond (is_some_of n.generation (cond (x == slot) (Some (n.generation + 1)) (s.slots x))) None (cond (x == slot) (Some (n.generation + 1)) (s.slots x)) ≡ None
         gone x differs = subst (λ b. cond (is_some_of n.generation (cond b (Some (n.generation + 1)) (s.slots x))) None (cond b (Some (n.generation + 1)) (s.slots x)) ≡ None) (sym (other_test x slot differs)) (freed (s.slots x) (before x (x == n.slot) refl))

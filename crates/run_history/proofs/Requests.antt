@@ -1,21 +1,23 @@
 -- Each kind of request of a serial run: the history stays legal and settled, and the rows agree with it.
-use Rattle.std.proofs.Common.{◌≡◌, ◌≢◌, ◌⊎◌, ℕ, zero, suc, ◌+◌, ◌<◌, ◌≤◌, List, [], ◌∷◌, ◌++◌, length, take, map, fold, Bool, true, false, cond, ◌==◌, count_by, filter_map, Option, Some, None, IsSome, Result, Ok, refl, sym, ap, ap₂, subst, ◌∙◌, inl, inr, arith, slice_get, append-nil}
+use Rattle.std.proofs.Common.{◌≡◌, ◌≢◌, ◌⊎◌, ℕ, suc, ◌+◌, ◌<◌, ◌≤◌, List, [], ◌∷◌, ◌++◌, length, take, map, fold, Bool, true, false, cond, ◌==◌, count_by, filter_map, Some, None, Result, Ok, refl, sym, ap, ap₂, subst, ◌∙◌, inl, inr, arith, slice_get, append-nil, length-append}
+use Rattle.std.proofs.Math.Seq.{take-append_seam}
 use Rattle.std.proofs.lemmas.List.{take_all}
+use Rattle.std.proofs.lemmas.List.Elements.{filter_map-append}
 use Rattle.std.proofs.lemmas.Grind.{fold-append}
 use Rattle.std.proofs.lemmas.Option.{same_Some, none-some}
-use Rattle.std.specs.List.{AllByRecursion, cons_option}
+use Rattle.std.specs.List.{cons_option}
 use Rattle.search_model.specs.Live.{live, after}
 use Rattle.search_model.specs.Answer.{Asked, answer}
 use Rattle.search_model.specs.Reply.{accepted, found, no_memory}
 use Rattle.script_form.specs.declared.config.Config.{Config}
 use Rattle.registry_machine.specs.declared.entry.Entry.{Entry}
 use Rattle.registry_machine.specs.declared.entry.Entry.TheVariants.{Open, Update, Finish, Acquire, Release, Free}
-use Rattle.registry_machine.specs.Entries.{caller_of, has_place, acquires, ticket_of}
+use Rattle.registry_machine.specs.Entries.{has_place, ticket_of}
 use Rattle.registry_machine.specs.Machine.{Limits, State, start}
 use Rattle.registry_machine.specs.Machine as machine
 use Rattle.registry_machine.specs.Legal.{Legal, state_of}
-use Rattle.registry_machine.specs.Places.{rank, Stands}
-use Rattle.registry_machine.proofs.Lists.{same_test, test_same, test_other, other_test}
+use Rattle.registry_machine.specs.Places.{rank}
+use Rattle.registry_machine.proofs.Lists.{false_true, same_test, test_same, test_other, other_test}
 use Rattle.registry_machine.proofs.Runs.{joined, state_joined, state_at}
 use Rattle.registry_machine.proofs.Indices.{sound_at}
 use Rattle.registry_machine.proofs.Tellings.{acquired_from}
@@ -56,12 +58,7 @@ module _ {U D L : Type 0} where
   get_here (x ∷ h) e es = get_here h e es
 
   tickets_append : (g : ℕ) (h more : List (Entry U D L)) → length (filter_map (ticket_of g) (h ++ more)) ≡ length (filter_map (ticket_of g) h) + length (filter_map (ticket_of g) more)
-  tickets_append g [] more = omega arith
-  tickets_append g (x ∷ h) more = put (ticket_of g x) (tickets_append g h more)
-    where
-      put : (o : Option ℕ) → length (filter_map (ticket_of g) (h ++ more)) ≡ length (filter_map (ticket_of g) h) + length (filter_map (ticket_of g) more) → length (cons_option o (filter_map (ticket_of g) (h ++ more))) ≡ length (cons_option o (filter_map (ticket_of g) h)) + length (filter_map (ticket_of g) more)
-      put None e = e
-      put (Some k) e = omega (arith, e)
+  tickets_append g h more = ap length (filter_map-append (ticket_of g) h more) ∙ length-append (filter_map (ticket_of g) h) (filter_map (ticket_of g) more)
 
 map_same : {A B : Type 0} (k j : A → B) (xs : List A) → ((x : A) → In x xs → k x ≡ j x) → map k xs ≡ map j xs
 map_same k j [] h = refl
@@ -148,28 +145,16 @@ module _ {U D L : Type 0} (r : Reading U D) (l : Limits) (c : Config) (h : List 
       );
       reply = λ e at. subst (RepliesTo r c (h ++ update_entries t.call.client u) t) (same_Some (Update t.call.client u) e (sym (get_here h (Update t.call.client u) []) ∙ at)) shown;
       covers = last;
-      placed = λ i e at placed named. only_first i e at;
-      acquired = λ i g j a. absurd (no_acquire i (g, j) a);
+      placed = ((λ p n. refl), tt);
+      acquired = ((λ pin a. absurd (none-some pin a)), tt);
       generations = refl;
       each = tt;
       froms = tt;
       within = tt;
       behind = tt;
-      views = λ i caller v g slot d at. absurd (no_open i caller v g slot d at);
+      views = ((λ b v g x y e. absurd (grind arith)), tt);
       released = update_is_quiet.pins;
     }
-      where
-        only_first : (i : ℕ) (e : Entry U D L) → slice_get (update_entries t.call.client u) i ≡ Some e → i ≡ 0
-        only_first zero e at = refl
-        only_first (suc i) e at = absurd (none-some e at)
-
-        no_acquire : (i : ℕ) (x : ℕ × ℕ) → Stands acquires (update_entries {D = D} {L = L} t.call.client u) i x → ⊥
-        no_acquire zero x a = none-some x (ap acquires (same_Some (Update t.call.client u) a.entry a.at) ∙ a.told)
-        no_acquire (suc i) x a = none-some a.entry a.at
-
-        no_open : (i caller : ℕ) (v : U) (g slot : ℕ) (d : D) → slice_get (update_entries {L = L} t.call.client u) i ≡ Some (Open caller v g slot d) → ⊥
-        no_open zero caller v g slot d at = grind arith
-        no_open (suc i) caller v g slot d at = none-some (Open caller v g slot d) at
 
     -- an update, or a commit that opens nothing
     pub update_serves : Serves r l c (h ++ update_entries t.call.client u) (ts ++ telling h t ∷ []) lives (record s { places = s.places + 1; docs = after s.docs (r.change u) })
@@ -222,46 +207,22 @@ module _ {U D L : Type 0} (r : Reading U D) (l : Limits) (c : Config) (h : List 
       );
       reply = λ e at. subst (RepliesTo r c (h ++ query_entries s t.call.client) t) (same_Some (Acquire t.call.client s.generation s.acquired) e (sym (get_here h (Acquire t.call.client s.generation s.acquired) (Release t.call.client s.generation [] ∷ [])) ∙ at)) (λ a w. subst (Rattle.run_history.specs.Agreement.IsReplied r c (h ++ query_entries s t.call.client) t.row s.generation) (same_asked asked a (sym wanted ∙ w)) reply_here);
       covers = last;
-      placed = λ i e at placed named. absurd (no_place i e at placed);
-      acquired = λ i g j a. one_acquire i g j a;
+      placed = ((λ p n. absurd (false_true p)), ((λ p n. absurd (false_true p)), tt));
+      acquired = ((λ pin a. told_once), ((λ pin a. absurd (none-some pin a)), tt));
       generations = refl;
       each = tt;
       froms = tt;
       within = tt;
       behind = tt;
-      views = λ i caller v g slot d at. absurd (no_open i caller v g slot d at);
+      views = ((λ b v g x y e. absurd (grind arith)), ((λ b v g x y e. absurd (grind arith)), tt));
       released = query_is_quiet.pins;
     }
       where
         same_asked : (a b : Asked) → ◌≡◌ {A = Result Wanted (List ℕ)} (Ok (an_answer a)) (Ok (an_answer b)) → a ≡ b
         same_asked a b e = cc
 
-        first : Entry U D L
-        first = Acquire t.call.client s.generation s.acquired
-
-        no_place : (i : ℕ) (e : Entry U D L) → slice_get (query_entries s t.call.client) i ≡ Some e → has_place e ≡ true → ⊥
-        no_place zero e at placed = not_true (ap has_place (same_Some (Acquire t.call.client s.generation s.acquired) e at) ∙ placed)
-          where
-            not_true : false ≡ true → ⊥
-            not_true x = grind arith
-        no_place (suc zero) e at placed = not_true (ap has_place (same_Some (Release t.call.client s.generation []) e at) ∙ placed)
-          where
-            not_true : false ≡ true → ⊥
-            not_true x = grind arith
-        no_place (suc (suc i)) e at placed = none-some e at
-
-        count_zero : count_by (tells_at (length h + 0)) (telling h t ∷ []) + count_by (warmed_at (length h + 0)) [] ≡ 1
-        count_zero = let e : length h ≡ length h + 0 = omega arith in subst (λ n. count_by (tells_at n) (telling h t ∷ []) + count_by (warmed_at n) [] ≡ 1) e (ap (λ b. 0 + cond b 1 0 + 0) (same_test (length h)))
-
-        one_acquire : (i g j : ℕ) → Stands acquires (query_entries {U = U} {D = D} {L = L} s t.call.client) i (g, j) → count_by (tells_at (length h + i)) (telling h t ∷ []) + count_by (warmed_at (length h + i)) [] ≡ 1
-        one_acquire zero g j a = count_zero
-        one_acquire (suc zero) g j a = absurd (none-some (g, j) (ap acquires (same_Some (Release t.call.client s.generation []) a.entry a.at) ∙ a.told))
-        one_acquire (suc (suc i)) g j a = absurd (none-some a.entry a.at)
-
-        no_open : (i caller : ℕ) (v : U) (g slot : ℕ) (d : D) → slice_get (query_entries {U = U} {D = D} {L = L} s t.call.client) i ≡ Some (Open caller v g slot d) → ⊥
-        no_open zero caller v g slot d at = grind arith
-        no_open (suc zero) caller v g slot d at = grind arith
-        no_open (suc (suc i)) caller v g slot d at = none-some (Open caller v g slot d) at
+        told_once : count_by (tells_at (length h)) (telling h t ∷ []) + count_by (warmed_at (length h)) [] ≡ 1
+        told_once = ap (λ b. 0 + cond b 1 0 + 0) (same_test (length h))
 
     -- a query
     pub query_serves : Serves r l c (h ++ query_entries s t.call.client) (ts ++ telling h t ∷ []) (map (once_more s.generation) lives) (record s { acquired = s.acquired + 1 })
@@ -328,52 +289,25 @@ module _ {U D L : Type 0} (r : Reading U D) (l : Limits) (c : Config) (h : List 
       );
       reply = λ e at. subst (RepliesTo r c (h ++ opening_entries s t.call.client u slot d) t) (same_Some (Open t.call.client u (s.generation + 1) slot d) e (sym here ∙ at)) shown;
       covers = last;
-      placed = λ i e at placed named. only_first i e at placed named;
-      acquired = λ i g j a. one_acquire i g j a;
+      placed = ((λ p n. refl), ((λ p n. absurd (false_true p)), ((λ p n. absurd (false_true p)), ((λ p n. absurd (false_true n)), ((λ p n. absurd (false_true p)), tt)))));
+      acquired = ((λ pin a. absurd (none-some pin a)), ((λ pin a. warmed_once), ((λ pin a. absurd (none-some pin a)), ((λ pin a. absurd (none-some pin a)), ((λ pin a. absurd (none-some pin a)), tt)))));
       generations = refl;
       each = (new_life, tt);
       froms = (((s.generation, s.acquired), refl, record { entry = Acquire t.call.client s.generation s.acquired; at = get_right h (opening_entries s t.call.client u slot d) 1; told = refl }), tt);
       within = ((length h + 1, refl, omega arith, omega arith), tt);
       behind = ((omega arith, λ n e. let same = same_Some (length h + 1) n e in omega (arith, same)), tt);
-      views = λ i caller v g x y at. carries i caller v g x y at;
+      views = ((λ b v g x y e. ap r.docs (sym (same_docs b v g x y e)) ∙ (carried ∙ (sym k.settled.docs ∙ ap live (sym whole)))), ((λ b v g x y e. absurd (grind arith)), ((λ b v g x y e. absurd (grind arith)), ((λ b v g x y e. absurd (grind arith)), ((λ b v g x y e. absurd (grind arith)), tt)))));
       released = opening_is_quiet.pins;
     }
       where
-        false_true : false ≡ true → ⊥
-        false_true x = grind arith
+        warmed_once : count_by (tells_at (length h + 1)) (telling h t ∷ []) + count_by (warmed_at (length h + 1)) (next_life h s ∷ []) ≡ 1
+        warmed_once = ap₂ (λ x y. 0 + cond x 1 0 + (0 + cond y 1 0)) (other_test (length h) (length h + 1) (λ e. omega (arith, e))) (same_test (length h + 1))
 
-        only_first : (i : ℕ) (e : Entry U D L) → slice_get (opening_entries s t.call.client u slot d) i ≡ Some e → has_place e ≡ true → IsSome (caller_of e) → i ≡ 0
-        only_first zero e at placed named = refl
-        only_first (suc zero) e at placed named = absurd (false_true (ap has_place (same_Some (Acquire t.call.client s.generation s.acquired) e at) ∙ placed))
-        only_first (suc (suc zero)) e at placed named = absurd (false_true (ap has_place (same_Some (Release t.call.client s.generation []) e at) ∙ placed))
-        only_first (suc (suc (suc zero))) e at placed named = absurd (false_true (ap (λ x. Rattle.std.specs.Option.is_some (caller_of x)) (same_Some (Finish (s.generation + 1) []) e at) ∙ named))
-        only_first (suc (suc (suc (suc zero)))) e at placed named = absurd (false_true (ap has_place (same_Some (Free s.generation) e at) ∙ placed))
-        only_first (suc (suc (suc (suc (suc i))))) e at placed named = absurd (none-some e at)
-
-        one_acquire : (i g j : ℕ) → Stands acquires (opening_entries {U = U} {D = D} {L = L} s t.call.client u slot d) i (g, j) → count_by (tells_at (length h + i)) (telling h t ∷ []) + count_by (warmed_at (length h + i)) (next_life h s ∷ []) ≡ 1
-        one_acquire zero g j a = absurd (none-some (g, j) (ap acquires (same_Some (Open t.call.client u (s.generation + 1) slot d) a.entry a.at) ∙ a.told))
-        one_acquire (suc zero) g j a =
-            let f : (length h == length h + 1) ≡ false = other_test (length h) (length h + 1) (λ e. omega (arith, e)) in
-            let w : (length h + 1 == length h + 1) ≡ true = same_test (length h + 1) in
-            ap₂ (λ x y. 0 + cond x 1 0 + (0 + cond y 1 0)) f w
-        one_acquire (suc (suc zero)) g j a = absurd (none-some (g, j) (ap acquires (same_Some (Release t.call.client s.generation []) a.entry a.at) ∙ a.told))
-        one_acquire (suc (suc (suc zero))) g j a = absurd (none-some (g, j) (ap acquires (same_Some (Finish (s.generation + 1) []) a.entry a.at) ∙ a.told))
-        one_acquire (suc (suc (suc (suc zero)))) g j a = absurd (none-some (g, j) (ap acquires (same_Some (Free s.generation) a.entry a.at) ∙ a.told))
-        one_acquire (suc (suc (suc (suc (suc i))))) g j a = absurd (none-some a.entry a.at)
-
-        same_docs : (b : ℕ) (v : U) (g x : ℕ) (y : D) → ◌≡◌ {A = Option (Entry U D L)} (Some (Open t.call.client u (s.generation + 1) slot d)) (Some (Open b v g x y)) → d ≡ y
+        same_docs : (b : ℕ) (v : U) (g x : ℕ) (y : D) → ◌≡◌ {A = Entry U D L} (Open t.call.client u (s.generation + 1) slot d) (Open b v g x y) → d ≡ y
         same_docs b v g x y e = cc
 
-        whole : changes r (take (length h + 0) (h ++ opening_entries s t.call.client u slot d)) ≡ changes r h
-        whole = ap (changes r) (take_right h (opening_entries s t.call.client u slot d) 0 ∙ append-nil h)
-
-        carries : (i caller : ℕ) (v : U) (g x : ℕ) (y : D) → slice_get (opening_entries {U = U} {D = D} {L = L} s t.call.client u slot d) i ≡ Some (Open caller v g x y) → r.docs y ≡ live (changes r (take (length h + i) (h ++ opening_entries s t.call.client u slot d)))
-        carries zero b v g x y at = ap r.docs (sym (same_docs b v g x y at)) ∙ (carried ∙ (sym k.settled.docs ∙ ap live (sym whole)))
-        carries (suc zero) b v g x y at = absurd (grind arith)
-        carries (suc (suc zero)) b v g x y at = absurd (grind arith)
-        carries (suc (suc (suc zero))) b v g x y at = absurd (grind arith)
-        carries (suc (suc (suc (suc zero)))) b v g x y at = absurd (grind arith)
-        carries (suc (suc (suc (suc (suc i))))) b v g x y at = absurd (none-some (Open b v g x y) at)
+        whole : changes r (take (length h) (h ++ opening_entries s t.call.client u slot d)) ≡ changes r h
+        whole = ap (changes r) (take-append_seam h (opening_entries s t.call.client u slot d))
 
     -- a commit that opens
     pub opening_serves : Serves r l c (h ++ opening_entries s t.call.client u slot d) (ts ++ telling h t ∷ []) (map (once_more s.generation) lives ++ next_life h s ∷ []) (record { generation = s.generation + 1; acquired = 0; slot = slot; places = s.places + 2; view = s.docs; docs = s.docs })

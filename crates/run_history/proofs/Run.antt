@@ -5,7 +5,7 @@ use Rattle.std.proofs.lemmas.Option.{same_Some, none-some}
 use Rattle.std.specs.List.{range_with_len}
 use Rattle.script_form.specs.declared.config.Config.{Config}
 use Rattle.registry_machine.specs.declared.entry.Entry.{Entry}
-use Rattle.registry_machine.specs.declared.entry.Entry.TheVariants.{Open, Finish, Superseded, Acquire}
+use Rattle.registry_machine.specs.declared.entry.Entry.TheVariants.{Open, Finish, Superseded}
 use Rattle.registry_machine.specs.Entries.{has_place, opens, ends, acquires}
 use Rattle.registry_machine.specs.Machine.{Limits, start}
 use Rattle.registry_machine.specs.Legal.{Legal, state_of}
@@ -15,7 +15,7 @@ use Rattle.registry_machine.proofs.Runs.{state_at}
 use Rattle.registry_machine.proofs.Ranks.{rank_next, rank_rises}
 use Rattle.registry_machine.proofs.Stands.{registered_ends}
 use Rattle.registry_machine.proofs.Tellings.{opened_from, last_from}
-use Rattle.registry_machine.proofs.Indices.{opened_once, ended_once, ended_behind, last_at_rises}
+use Rattle.registry_machine.proofs.Indices.{ended_behind, last_at_rises}
 use Rattle.run_laws.specs.Bounds.{opened_by}
 use Rattle.run_laws.specs.Acquires.{pin_of}
 use Rattle.run_laws.specs.Lawful.{IsIdle}
@@ -46,10 +46,6 @@ pub ends_placed : {U D L : Type 0} (e : Entry U D L) (g : ℕ) → ends e ≡ So
 ends_placed (Finish x l) g k = refl
 ends_placed (Superseded x b l) g k = refl
 ends_placed _ g k = absurd (none-some g k)
-
-pub acquires_unplaced : {U D L : Type 0} (e : Entry U D L) (x : ℕ × ℕ) → acquires e ≡ Some x → has_place e ≡ false
-acquires_unplaced (Acquire c g k) x e = refl
-acquires_unplaced _ x e = absurd (none-some x e)
 
 -- the row tells the entry at index n
 pub record IsToldAt {U D L : Type 0} (f : Run U D L) (t : Telling) (n : ℕ) : Type 0 where
@@ -191,13 +187,6 @@ module _ {U D L : Type 0} (f : Run U D L) where
   life_count s i =
       let b = life_bounds s i in
       sym (count_map (λ x. x.row.generation) (λ x. x == s.row.generation) f.lives) ∙ (ap (count_by (λ x. x == s.row.generation)) generations_are ∙ count_range s.row.generation 1 (length (filter_map opens f.history)) b.0 b.1)
-
-  -- rows of one generation have the same indices
-  pub same_opened : (s x : Life) → In s f.lives → In x f.lives → s.row.generation ≡ x.row.generation → s.opened ≡ x.opened
-  same_opened s x i j e = opened_once f.limits f.history f.legal s.opened x.opened x.row.generation (subst (Stands opens f.history s.opened) e (life_is s i).opening) (life_is x j).opening
-
-  pub same_ended : (s x : Life) → In s f.lives → In x f.lives → s.row.generation ≡ x.row.generation → s.ended ≡ x.ended
-  same_ended s x i j e = ended_once f.limits f.history f.legal s.ended x.ended x.row.generation (subst (Stands ends f.history s.ended) e (life_is s i).end) (life_is x j).end
 
   pub opened_before_end : (s : Life) → In s f.lives → s.opened < s.ended
   opened_before_end s i = ended_behind f.limits f.history f.legal s.opened s.ended s.row.generation (life_is s i).opening (life_is s i).end

@@ -5,6 +5,7 @@ use Rattle.std.proofs.lemmas.Option.{slice_get_within}
 use Rattle.std.specs.List.{AllByRecursion}
 use Rattle.registry_machine.specs.Entries.{acquires}
 use Rattle.registry_machine.specs.Places.{rank, Stands}
+use Rattle.registry_machine.proofs.Lists.{not_both}
 use Rattle.registry_machine.proofs.Runs.{state_at}
 use Rattle.registry_machine.proofs.Ranks.{rank_rises, rank_rises_over}
 use Rattle.registry_machine.proofs.Indices.{acquires_at, registers_at, supersedes_at}
@@ -49,9 +50,6 @@ module _ {U D L : Type 0} (f : Run U D L) where
       let c = current_found f s.ended r.by (s.row.ended - 1) (within_end s i) r.current (ended_place s i) in
       let g = r.greater in
       subst (λ y. false ≡ nat_le y s.row.generation) (sym c) (grind (arith, nat_tests, g))
-    where
-      not_both : (b : Bool) → b ≡ false → b ≡ true → ⊥
-      not_both b x y = grind arith
 
   -- a searcher is registered exactly where no greater generation is current
   pub greatest_serves : AllByRecursion (ServesUnlessOlder (output_of f.rows f.lives)) (map (λ s. s.row) f.lives)

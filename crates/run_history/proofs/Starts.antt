@@ -1,6 +1,6 @@
 -- The first searcher alone, and rows in any order.
-use Rattle.std.proofs.Common.{◌≡◌, ◌≢◌, ℕ, zero, suc, ◌+◌, ◌<◌, List, [], ◌∷◌, true, false, cond, count_by, Option, Some, IsSome, refl, sym, ap, ◌∙◌, arith, slice_get}
-use Rattle.std.proofs.lemmas.Option.{same_Some, none-some}
+use Rattle.std.proofs.Common.{◌≡◌, ◌≢◌, ℕ, ◌+◌, List, [], ◌∷◌, cond, count_by, Some, refl, sym, ap, ◌∙◌, arith}
+use Rattle.std.proofs.lemmas.Option.{none-some}
 use Rattle.std.proofs.lemmas.List.Elements.{All-from_recursion, recursion_from_All}
 use Rattle.std.proofs.lemmas.List.Sorted.{All-permutation, sum_by-IsPermutation}
 use Rattle.std.specs.List.{AllByRecursion}
@@ -8,14 +8,14 @@ use Rattle.std.specs.List.Sorted.{IsPermutation}
 use Rattle.script_form.specs.declared.config.Config.{Config}
 use Rattle.registry_machine.specs.declared.entry.Entry.{Entry}
 use Rattle.registry_machine.specs.declared.entry.Entry.TheVariants.{Open, Finish}
-use Rattle.registry_machine.specs.Entries.{caller_of, acquires}
 use Rattle.registry_machine.specs.Machine.{Limits}
 use Rattle.registry_machine.specs.Legal.{Legal, state_of}
-use Rattle.registry_machine.specs.Places.{Stands}
+use Rattle.registry_machine.proofs.Lists.{false_true}
 use Rattle.run_history.specs.Tellings.{Reading, Telling, Life, tells_at, warmed_at}
 use Rattle.run_history.specs.Agreement.{IsTelling, IsLife, StandsBefore, CarryViews, HasReply, Agrees}
 use Rattle.run_history.specs.Serial.{Serves, start_entries, first_life, stand_at_start, CanStart}
 use Rattle.run_history.proofs.Elements.{all_in, all_from}
+use Rattle.run_history.proofs.Indexed.{each_from_0, IsPlacedOnce, acquired_by, views_by}
 use Rattle.run_history.proofs.Quiet.{Quiet, start_legal, start_quiet}
 use Rattle.run_history.proofs.Requests.{settle}
 
@@ -26,26 +26,11 @@ module _ {U D : Type 0} (L : Type 0) (r : Reading U D) (l : Limits) (c : Config)
   quiet : Quiet (state_of {U = U} {D = D} {L = L} l (start_entries caller u slot d)) 1 0 slot
   quiet = start_quiet U D L l caller u slot d
 
-  no_place : (n : ℕ) (e : Entry U D L) → slice_get (start_entries caller u slot d) n ≡ Some e → IsSome (caller_of e) → 0 < n → ⊥
-  no_place zero e at named above = omega (arith, above)
-  no_place (suc zero) e at named above = not_named (ap (λ x. Rattle.std.specs.Option.is_some (caller_of x)) (same_Some (Finish 1 []) e at) ∙ named)
-    where
-      not_named : false ≡ true → ⊥
-      not_named x = grind arith
-  no_place (suc (suc n)) e at named above = none-some e at
-
-  no_acquire : (n : ℕ) (x : ℕ × ℕ) → Stands acquires (start_entries {U = U} {D = D} {L = L} caller u slot d) n x → ⊥
-  no_acquire zero x a = none-some x (ap acquires (same_Some (Open caller u 1 slot d) a.entry a.at) ∙ a.told)
-  no_acquire (suc zero) x a = none-some x (ap acquires (same_Some (Finish 1 []) a.entry a.at) ∙ a.told)
-  no_acquire (suc (suc n)) x a = none-some a.entry a.at
-
   views : CarryViews {L = L} r (start_entries caller u slot d)
-  views zero b v g x y at = ap r.docs (sym (same_docs b v g x y at)) ∙ can.none
+  views = views_by r (start_entries caller u slot d) ((λ b v g x y e. ap r.docs (sym (same_docs b v g x y e)) ∙ can.none), ((λ b v g x y e. absurd (grind arith)), tt))
     where
-      same_docs : (b : ℕ) (v : U) (g x : ℕ) (y : D) → ◌≡◌ {A = Option (Entry U D L)} (Some (Open caller u 1 slot d)) (Some (Open b v g x y)) → d ≡ y
+      same_docs : (b : ℕ) (v : U) (g x : ℕ) (y : D) → ◌≡◌ {A = Entry U D L} (Open caller u 1 slot d) (Open b v g x y) → d ≡ y
       same_docs b v g x y e = cc
-  views (suc zero) b v g x y at = absurd (grind arith)
-  views (suc (suc n)) b v g x y at = absurd (none-some (Open b v g x y) at)
 
   first_is : IsLife {U = U} {D = D} {L = L} (start_entries caller u slot d) first_life
   first_is = record {
@@ -65,9 +50,9 @@ module _ {U D : Type 0} (L : Type 0) (r : Reading U D) (l : Limits) (c : Config)
       once = record {
         begins = record { opened = record { entry = Open caller u 1 slot d; at = refl; told = refl }; registered = record { entry = Finish 1 []; at = refl; told = refl } };
         first = tt;
-        placed = λ n e at placed named above. absurd (no_place n e at named above);
+        placed = each_from_0 (IsPlacedOnce []) (start_entries caller u slot d) ((λ p n z. absurd (omega (arith, z))), ((λ p n z. absurd (false_true n)), tt));
         froms = (refl, tt);
-        acquired = λ n g k a. absurd (no_acquire n (g, k) a);
+        acquired = acquired_by [] (first_life ∷ []) (start_entries caller u slot d) ((λ pin a. absurd (none-some pin a)), ((λ pin a. absurd (none-some pin a)), tt));
       };
       searchers = record { generations = refl; each = (first_is, tt) };
       order = tt;

@@ -1,6 +1,7 @@
 -- What the rows say a searcher sees is what its opening carries.
 use Rattle.std.proofs.Common.{◌≡◌, ◌⊎◌, ℕ, zero, suc, ◌+◌, ◌<◌, List, [], ◌∷◌, ◌++◌, length, take, drop, map, filter, Bool, true, false, cond, ◌==◌, count_by, Option, Some, None, IsSome, refl, sym, ap, ap₂, subst, ◌∙◌, inl, inr, arith, slice_get, append_assoc}
 use Rattle.std.proofs.lemmas.List.{map-append, take_at, take-append-drop, length-map}
+use Rattle.std.proofs.lemmas.List.Elements.{filter-append}
 use Rattle.std.proofs.lemmas.List.Sums.{length-filter}
 use Rattle.std.proofs.lemmas.Option.{same_Some, none-some, slice_get_within}
 use Rattle.std.specs.List.{range_with_len}
@@ -11,7 +12,7 @@ use Rattle.registry_machine.specs.declared.entry.Entry.{Entry}
 use Rattle.registry_machine.specs.declared.entry.Entry.TheVariants.{Open, Update}
 use Rattle.registry_machine.specs.Entries.{caller_of, has_place, opens}
 use Rattle.registry_machine.specs.Places.{rank, Stands}
-use Rattle.registry_machine.proofs.Lists.{same_test, test_same}
+use Rattle.registry_machine.proofs.Lists.{not_both, same_test, test_same}
 use Rattle.registry_machine.proofs.Ranks.{one_index}
 use Rattle.registry_machine.proofs.Indices.{opens_at, sound_at, opened_once}
 use Rattle.run_laws.specs.Rows.{Output}
@@ -39,9 +40,6 @@ change_at_is c p x (t ∷ ts) each some = by_test t.told.row.place refl (change_
     by_eq : (m : ℕ) → t.told.row.place ≡ Some m → (b : Bool) → (p == m) ≡ b → ((x ≡ nothing) ⊎ ((y : Telling) × In y ts × (y.told.row.place ≡ Some p)) → change_at c p (map (λ y. y.told) ts) ≡ x) → cond b (change_of c t.told) (change_at c p (map (λ y. y.told) ts)) ≡ x
     by_eq m e true t' go = each t (inl refl) (e ∙ ap Some (sym (test_same p m t')))
     by_eq m e false t' go = go (rest (λ h. not_both (p == m) t' (subst (λ y. (p == y) ≡ true) (same_Some p m (sym h ∙ e)) (same_test p))) some)
-      where
-        not_both : (b : Bool) → b ≡ false → b ≡ true → ⊥
-        not_both b u v = grind arith
 
     by_test : (o : Option ℕ) → t.told.row.place ≡ o → ((x ≡ nothing) ⊎ ((y : Telling) × In y ts × (y.told.row.place ≡ Some p)) → change_at c p (map (λ y. y.told) ts) ≡ x) → cond (is_some_of p t.told.row.place) (change_of c t.told) (change_at c p (map (λ y. y.told) ts)) ≡ x
     by_test None e go = subst (λ o. cond (is_some_of p o) (change_of c t.told) (change_at c p (map (λ y. y.told) ts)) ≡ x) (sym e) (go (rest (λ h. none-some p (sym e ∙ h)) some))
@@ -57,14 +55,6 @@ index_from n t e = index_is n t.index e
 get_behind : {A : Type 0} (xs : List A) (y : A) (ys : List A) → slice_get (xs ++ y ∷ ys) (length xs) ≡ Some y
 get_behind [] y ys = refl
 get_behind (x ∷ xs) y ys = get_behind xs y ys
-
-filter-append : {A : Type 0} (p : A → Bool) (xs ys : List A) → filter p (xs ++ ys) ≡ filter p xs ++ filter p ys
-filter-append {A} p [] ys = refl
-filter-append {A} p (x ∷ xs) ys = put (p x) x (filter-append p xs ys)
-  where
-    put : (b : Bool) (x : A) → filter p (xs ++ ys) ≡ filter p xs ++ filter p ys → cond b (x ∷ filter p (xs ++ ys)) (filter p (xs ++ ys)) ≡ cond b (x ∷ filter p xs) (filter p xs) ++ filter p ys
-    put true x e = ap (λ zs. x ∷ zs) e
-    put false x e = e
 
 module _ {U D L : Type 0} (r : Reading U D) where
   pub changes_append : (h more : List (Entry U D L)) → changes r (h ++ more) ≡ changes r h ++ changes r more
@@ -120,9 +110,6 @@ opened_found g (x ∷ ls) s i e = by_test (g == x.row.generation) refl i (λ j. 
     by_test : (b : Bool) → (g == x.row.generation) ≡ b → In s (x ∷ ls) → (In s ls → (y : Life) × In y ls × (y.row.generation ≡ g) × (opened_of g (map (λ z. z.row) ls) ≡ Some y.row.opened)) → (y : Life) × In y (x ∷ ls) × (y.row.generation ≡ g) × (cond (g == x.row.generation) (Some x.row.opened) (opened_of g (map (λ z. z.row) ls)) ≡ Some y.row.opened)
     by_test true t i rest = (x, inl refl, sym (test_same g x.row.generation t), ap (λ b. cond b (Some x.row.opened) (opened_of g (map (λ z. z.row) ls))) t)
     by_test false t (inl same) rest = absurd (not_both (g == x.row.generation) t (subst (λ y. (g == y) ≡ true) (sym (ap (λ z. z.row.generation) same ∙ e)) (same_test g)))
-      where
-        not_both : (b : Bool) → b ≡ false → b ≡ true → ⊥
-        not_both b u v = grind arith
     by_test false t (inr j) rest = let k = rest j in (k.0, inr k.1, k.2, ap (λ b. cond b (Some x.row.opened) (opened_of g (map (λ z. z.row) ls))) t ∙ k.3)
 
 module _ {U D L : Type 0} (f : Run U D L) where

@@ -8,7 +8,7 @@ use Rattle.registry_machine.specs.Entries.{has_place, opens, ends}
 use Rattle.registry_machine.specs.Machine.{is_in}
 use Rattle.registry_machine.specs.Places.{rank}
 use Rattle.registry_machine.specs.Orders.{Ascends}
-use Rattle.registry_machine.proofs.Lists.{same_test, test_same}
+use Rattle.registry_machine.proofs.Lists.{not_both, same_test, test_same}
 use Rattle.registry_machine.proofs.Runs.{state_at}
 use Rattle.registry_machine.proofs.Ranks.{rank_rises, rank_rises_over}
 use Rattle.registry_machine.proofs.Indices.{sound_at, warming_between, ended_after, opened_before}
@@ -95,9 +95,6 @@ pick q (x ∷ ls) s i t = by_test (q x.row) refl i (λ j. pick q ls s j t)
     by_test true e (inl same) rest = inl (ap (λ y. y.row.generation) same)
     by_test true e (inr j) rest = inr (rest j)
     by_test false e (inl same) rest = absurd (not_both (q x.row) e (subst (λ y. q y.row ≡ true) (sym same) t))
-      where
-        not_both : (b : Bool) → b ≡ false → b ≡ true → ⊥
-        not_both b x y = grind arith
     by_test false e (inr j) rest = rest j
 
 between_test : (a p b : ℕ) → a < p → p < b → (nat_lt a p && nat_lt p b) ≡ true

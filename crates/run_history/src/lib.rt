@@ -4,6 +4,4 @@
 
 pub mod agreement;
 pub mod serial;
-#[cfg(test)]
-mod tests;
 pub mod trials;
