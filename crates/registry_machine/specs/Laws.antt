@@ -1,4 +1,4 @@
--- What holds of every legal history, law by law. Contents, shown documents and lists are of any types U, D and L.
+-- What holds of every legal history, law by law, over any contents U, documents D and lists L.
 use Rattle.std.specs.Prelude.{◌≡◌, ◌≢◌, ℕ, ◌+◌, ◌-◌, ◌<◌, ◌≤◌, List, [], ◌∷◌, ◌++◌, length, take, filter, filter_map, Bool, true, not, Some, None, slice_get}
 use Rattle.std.specs.List.{range_with_len, last_or}
 use Rattle.registry_machine.specs.declared.entry.Entry.{Entry}

@@ -1,4 +1,4 @@
--- What the functions of this crate show, each by its name. Contents, shown documents and lists are of any types U, D and L.
+-- What the functions of this crate show, by names, over any contents U, documents D and lists L.
 use Rattle.std.specs.Prelude.{◌≡◌, ℕ, List, [], ◌∷◌, ◌++◌, map}
 use Rattle.std.specs.List.Sorted.{IsPermutation}
 use Rattle.search_model.specs.Answer.{Asked}
@@ -27,7 +27,8 @@ module _ (U D L : Type 0) where
   abbrev pub AgreeingIsInAnyOrder : Type 0
   AgreeingIsInAnyOrder =
       (r : Reading U D) (l : Limits) (c : Config) (h : List (Entry U D L)) (lives : List Life)
-      (ts us : List Telling) → IsPermutation ts us → Agrees r l c h ts lives → Agrees r l c h us lives
+      (ts us : List Telling) → IsPermutation ts us →
+      Agrees r l c h ts lives → Agrees r l c h us lives
 
   -- ---- a serial run, request by request
 
@@ -36,7 +37,8 @@ module _ (U D L : Type 0) where
   StartServes =
       (r : Reading U D) (l : Limits) (c : Config) (caller : ℕ) (u : U) (slot : ℕ) (d : D) →
       CanStart r l c slot d →
-      Serves {L = L} r l c (start_entries caller u slot d) [] (first_life ∷ []) (stand_at_start slot)
+      Serves {L = L} r l c (start_entries caller u slot d) []
+      (first_life ∷ []) (stand_at_start slot)
 
   -- a row that did nothing may be added
   abbrev pub IdleRowsServe : Type 0
