@@ -16,6 +16,3 @@ pub use letter::{Letter, letters, plain_letters};
 pub use lexeme::{Bound, Lexeme, Operator, What};
 pub use local::{Local, ReadLocal, behind_mark, read_local};
 pub use read::next_lexeme;
-
-#[cfg(test)]
-mod tests;

@@ -15,6 +15,3 @@ pub use printing::print;
 pub use query_lexemes::QueryFault;
 pub use reader::{Parsed, parse};
 pub use sort_text::{SortFault, read_sort};
-
-#[cfg(test)]
-mod tests;

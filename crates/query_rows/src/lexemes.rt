@@ -1,4 +1,4 @@
-use crate::*;
+use query_lexemes::{behind_mark, letters, next_lexeme, plain_letters, read_local, sort_item};
 use std::alloc::Global;
 use std::fmt::Write;
 use std::test::Fail;

@@ -1,5 +1,5 @@
-use crate::*;
 use field_schema::{FieldNo, Schema};
+use query_text::{Op, QueryFault, SortFault, parse, print, read_sort};
 use query_tree::SortBy;
 use serde_json::Value;
 use std::alloc::Global;
