@@ -1,3 +1,6 @@
-pub mod ItemsTurn
-pub mod Numbers
-pub mod Runs
+mod ItemsTurn
+mod Numbers
+mod Runs
+pub mod Pieces
+pub mod Ranges
+pub mod Shapes
