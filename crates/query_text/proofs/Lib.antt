@@ -1,3 +1,6 @@
-pub mod Sorting
+pub mod Leaves
 pub mod SortTurns
+pub mod Sorting
+pub mod Steps
 pub mod Turns
+pub mod Values
