@@ -1,6 +1,9 @@
 pub mod Leaves
+pub mod Names
+pub mod Parts
 pub mod SortTurns
 pub mod Sorting
 pub mod Steps
 pub mod Turns
 pub mod Values
+pub mod Whole

@@ -4,4 +4,5 @@ pub mod Readings
 pub mod Faults
 pub mod Reads
 pub mod Sorts
+pub mod PrintLaws
 pub mod Printing
