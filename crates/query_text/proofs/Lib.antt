@@ -1,6 +1,7 @@
 pub mod Leaves
 pub mod Names
 pub mod Parts
+pub mod Printed
 pub mod SortTurns
 pub mod Sorting
 pub mod Steps

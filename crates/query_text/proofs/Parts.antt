@@ -59,7 +59,7 @@ marked_text : (cs : List ℕ) → encodes (marked cs) ≡ flat_map quoted_char c
 marked_text [] = refl
 marked_text (c ∷ cs) = by_mark_text (c == 34 || c == 92) c (marked cs) (flat_map quoted_char cs) (marked_text cs)
 
-quotes_text : (cs : List ℕ) (ss : List Shape) → scalars cs ≡ true → bytes_of (in_quotes cs ss) ≡ quoted_text (encodes cs) ++ bytes_of ss
+pub quotes_text : (cs : List ℕ) (ss : List Shape) → scalars cs ≡ true → bytes_of (in_quotes cs ss) ≡ quoted_text (encodes cs) ++ bytes_of ss
 unfolding quoted_text
 quotes_text cs ss h =
     rw (chars_quoting cs (own 34 ∷ ss), encodes-append (marked cs) (34 ∷ chars_of ss), marked_text cs, encode_ascii 34 (omega arith), chars-encodes cs h,
@@ -71,13 +71,13 @@ encodes_name (c ∷ cs) h =
     let p : (is_name_byte c ≡ true) × (list_all is_name_byte cs ≡ true) = and_parts _ _ h in
     rw (encode_ascii c (below c p.0), encodes_name cs p.1) refl
 
-name_text : (cs : List ℕ) (ss : List Shape) → list_all is_name_byte cs ≡ true → bytes_of (bare cs ++ own 58 ∷ ss) ≡ (cs ++ codes ":") ++ bytes_of ss
+pub name_text : (cs : List ℕ) (ss : List Shape) → list_all is_name_byte cs ≡ true → bytes_of (bare cs ++ own 58 ∷ ss) ≡ (cs ++ codes ":") ++ bytes_of ss
 name_text cs ss h =
     rw (chars_bare cs (own 58 ∷ ss), encodes-append cs (58 ∷ chars_of ss), encodes_name cs h, encode_ascii 58 (omega arith), append_assoc cs (58 ∷ []) (bytes_of ss)) refl
 
 -- ---- sound characters
 
-abbrev IsFine : List Shape → Type 0
+abbrev pub IsFine : List Shape → Type 0
 IsFine ss = IsSound ss × (scalars (chars_of ss) ≡ true)
 
 name_scalar : (c : ℕ) → is_name_byte c ≡ true → scalar c ≡ true
@@ -89,7 +89,7 @@ name_no_escape c h =
     let n : (c == 92) ≡ false = rw h at e in
     rw n refl
 
-fine_name : (cs : List ℕ) (ss : List Shape) → list_all is_name_byte cs ≡ true → IsFine ss → IsFine (bare cs ++ ss)
+pub fine_name : (cs : List ℕ) (ss : List Shape) → list_all is_name_byte cs ≡ true → IsFine ss → IsFine (bare cs ++ ss)
 fine_name [] ss h fine = fine
 fine_name (c ∷ cs) ss h fine =
     let p : (is_name_byte c ≡ true) × (list_all is_name_byte cs ≡ true) = and_parts _ _ h in
@@ -113,7 +113,7 @@ fine_quoting (c ∷ cs) ss h fine =
     ((quote_sound (c == 34) (c == 92), r.0), by_mark_real (c == 34 || c == 92) c (chars_of (quoting cs ++ ss)) p.0 r.1)
 
 -- an ASCII character that stands for itself, in front
-fine_quotes : (cs : List ℕ) (ss : List Shape) → scalars cs ≡ true → IsFine ss → IsFine (in_quotes cs ss)
+pub fine_quotes : (cs : List ℕ) (ss : List Shape) → scalars cs ≡ true → IsFine ss → IsFine (in_quotes cs ss)
 fine_quotes cs ss h fine =
     let r : IsFine (quoting cs ++ own 34 ∷ ss) = fine_quoting cs (own 34 ∷ ss) h ((refl, fine.0), fine.1) in
     ((refl, r.0), r.1)
@@ -121,20 +121,20 @@ fine_quotes cs ss h fine =
 -- ---- printed texts
 
 module _ (fields : List Field) where
-  part_along : (q : Query) (layer : Query-F Query) → out-Query q ≡ layer → part_text fields q ≡ layer_text fields (map-Query Query (List ℕ) (part_text fields) layer)
+  pub part_along : (q : Query) (layer : Query-F Query) → out-Query q ≡ layer → part_text fields q ≡ layer_text fields (map-Query Query (List ℕ) (part_text fields) layer)
   part_along q layer e = fold_out-Query (List ℕ) (layer_text fields) q ∙ ap (λ x. layer_text fields (map-Query Query (List ℕ) (part_text fields) x)) e
 
-  top_along : (q : Query) (layer : Query-F Query) → out-Query q ≡ layer → printed fields q ≡ top_text fields q layer
+  pub top_along : (q : Query) (layer : Query-F Query) → out-Query q ≡ layer → printed fields q ≡ top_text fields q layer
   top_along q layer e = ap (top_text fields q) e
 
-  printed_all : printed fields query.All ≡ codes "*:*"
+  pub printed_all : printed fields query.All ≡ codes "*:*"
   printed_all = top_along query.All node.All views.outs-All ∙ part_along query.All node.All views.outs-All
 
-  printed_exists : (f : ℕ) → printed fields (query.Exists f) ≡ named fields f ++ codes "*"
+  pub printed_exists : (f : ℕ) → printed fields (query.Exists f) ≡ named fields f ++ codes "*"
   printed_exists f = top_along (query.Exists f) (node.Exists f) (views.outs-Exists f) ∙ part_along (query.Exists f) (node.Exists f) (views.outs-Exists f)
 
-  printed_term : (f : ℕ) (k : Key) → printed fields (query.Term f k) ≡ named fields f ++ quoted_text (key_text k)
+  pub printed_term : (f : ℕ) (k : Key) → printed fields (query.Term f k) ≡ named fields f ++ quoted_text (key_text k)
   printed_term f k = top_along (query.Term f k) (node.Term f k) (views.outs-Term f k) ∙ part_along (query.Term f k) (node.Term f k) (views.outs-Term f k)
 
-  printed_words : (f : ℕ) (ws : List (List ℕ)) → printed fields (query.Words f ws) ≡ named fields f ++ quoted_text (spaced ws)
+  pub printed_words : (f : ℕ) (ws : List (List ℕ)) → printed fields (query.Words f ws) ≡ named fields f ++ quoted_text (spaced ws)
   printed_words f ws = top_along (query.Words f ws) (node.Words f ws) (views.outs-Words f ws) ∙ part_along (query.Words f ws) (node.Words f ws) (views.outs-Words f ws)
