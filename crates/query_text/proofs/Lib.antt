@@ -1,3 +1,4 @@
+pub mod Groups
 pub mod Leaves
 pub mod Names
 pub mod Parts
@@ -5,6 +6,7 @@ pub mod Printed
 pub mod SortTurns
 pub mod Sorting
 pub mod Steps
+pub mod Tops
 pub mod Turns
 pub mod Values
 pub mod Whole

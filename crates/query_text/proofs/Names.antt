@@ -25,7 +25,7 @@ below c h = grind (arith, nat_tests)
 named_plain : (c : ℕ) → is_name_byte c ≡ true → (is_white c || is_special c) ≡ false
 named_plain c h =
     let e : (is_name_byte c && (is_white c || is_special c)) ≡ false
-        = agree_below_at (λ c. is_name_byte c && (is_white c || is_special c)) (λ c. false) 128 c refl (below c h) in
+    = agree_below_at (λ c. is_name_byte c && (is_white c || is_special c)) (λ c. false) 128 c refl (below c h) in
     rw h at e
 
 named_no_plus : (c : ℕ) → is_name_byte c ≡ true → is_plus c ≡ false

@@ -62,8 +62,14 @@ marked_text (c ∷ cs) = by_mark_text (c == 34 || c == 92) c (marked cs) (flat_m
 pub quotes_text : (cs : List ℕ) (ss : List Shape) → scalars cs ≡ true → bytes_of (in_quotes cs ss) ≡ quoted_text (encodes cs) ++ bytes_of ss
 unfolding quoted_text
 quotes_text cs ss h =
-    rw (chars_quoting cs (own 34 ∷ ss), encodes-append (marked cs) (34 ∷ chars_of ss), marked_text cs, encode_ascii 34 (omega arith), chars-encodes cs h,
-        append_assoc (flat_map quoted_char cs) (34 ∷ []) (bytes_of ss)) refl
+    rw (
+      chars_quoting cs (own 34 ∷ ss),
+      encodes-append (marked cs) (34 ∷ chars_of ss),
+      marked_text cs,
+      encode_ascii 34 (omega arith),
+      chars-encodes cs h,
+      append_assoc (flat_map quoted_char cs) (34 ∷ []) (bytes_of ss),
+    ) refl
 
 encodes_name : (cs : List ℕ) → list_all is_name_byte cs ≡ true → encodes cs ≡ cs
 encodes_name [] h = refl

@@ -79,7 +79,7 @@ name_no_mark c h =
 name_no_blank : (c : ℕ) → is_name_byte c ≡ true → is_white c ≡ false
 name_no_blank c h =
     let e : (is_name_byte c && is_white c) ≡ false
-        = agree_below_at (λ c. is_name_byte c && is_white c) (λ c. false) 128 c refl (below c h) in
+    = agree_below_at (λ c. is_name_byte c && is_white c) (λ c. false) 128 c refl (below c h) in
     rw h at e
 
 -- ---- values behind a field's name
@@ -117,11 +117,11 @@ module _ (fields : List Field) (most f : ℕ) (q : Query) (s : IsSpelled fields 
         mark = λ rest at. n.1;
         reads = λ end df own_field cs sign os rest r deep behind room reads.
             step (or_setting fields) most end (level df own_field cs sign Here) os (named_shapes rest) (v.shapes rest) r (level df own_field cs sign (To (Some f))) os
-              (omega (arith, length-append (bare (s.first ∷ s.others)) (own 58 ∷ v.shapes rest)))
-              (λ at. name_step (or_setting fields) most end df own_field cs sign os f (own s.first) (bare s.others) (v.shapes rest) (name_word s.first s.others s.name)
-                  (rw (spelled_bare (s.first ∷ s.others) s.name.bytes) s.found) room at)
-              (step (or_setting fields) most end (level df own_field cs sign (To (Some f))) os (v.shapes rest) rest r (level df own_field (more cs sign q) None Here) os
-                (v.longer rest) (v.reads end df own_field cs sign os rest behind) reads);
+            (omega (arith, length-append (bare (s.first ∷ s.others)) (own 58 ∷ v.shapes rest)))
+            (λ at. name_step (or_setting fields) most end df own_field cs sign os f (own s.first) (bare s.others) (v.shapes rest) (name_word s.first s.others s.name)
+            (rw (spelled_bare (s.first ∷ s.others) s.name.bytes) s.found) room at)
+            (step (or_setting fields) most end (level df own_field cs sign (To (Some f))) os (v.shapes rest) rest r (level df own_field (more cs sign q) None Here) os
+            (v.longer rest) (v.reads end df own_field cs sign os rest behind) reads);
       }
 
 -- ---- the values
@@ -134,7 +134,7 @@ spelled_chars : (text : List ℕ) → IsUtf8 text → flat_map encode_utf8 (char
 spelled_chars text h = flat_encodes (chars text) ∙ encodes-chars text h
 
 module _ (fields : List Field) (most f : ℕ) where
-  star_value : Value fields most f (query.Exists f)
+  pub star_value : Value fields most f (query.Exists f)
   star_value = record {
     shapes = λ rest. own 42 ∷ rest;
     text = codes "*";
@@ -146,7 +146,7 @@ module _ (fields : List Field) (most f : ℕ) where
         star_step (or_setting fields) most end df own_field cs sign os (To (Some f)) rest (query.Exists f) refl refl behind at;
   }
 
-  quoted_value : (q : Query) (text : List ℕ) → part_text fields q ≡ named fields f ++ quoted_text text → IsValue fields f text
+  pub quoted_value : (q : Query) (text : List ℕ) → part_text fields q ≡ named fields f ++ quoted_text text → IsValue fields f text
       → term (kind_at fields f) f text (words_in (Some (kind_at fields f)) (Some text)) ≡ q → Value fields most f q
   quoted_value q text prints value e =
       let back : encodes (chars text) ≡ text = encodes-chars text value.utf8 in
@@ -160,6 +160,6 @@ module _ (fields : List Field) (most f : ℕ) where
         longer = λ rest. omega (arith, length-append (quoting (chars text)) (own 34 ∷ rest));
         reads = λ end df own_field cs sign os rest behind at.
             quoted_step (or_setting fields) most end df own_field cs sign os f (chars text) rest q
-              (subst (λ (t : List ℕ). (is_long (Some (kind_at fields f)) && is_no_number (Some t)) ≡ false) (sym (spelled_chars text value.utf8)) value.number)
-              (subst (λ (t : List ℕ). term (kind_at fields f) f t (words_in (Some (kind_at fields f)) (Some t)) ≡ q) (sym (spelled_chars text value.utf8)) e) at;
+            (subst (λ (t : List ℕ). (is_long (Some (kind_at fields f)) && is_no_number (Some t)) ≡ false) (sym (spelled_chars text value.utf8)) value.number)
+            (subst (λ (t : List ℕ). term (kind_at fields f) f t (words_in (Some (kind_at fields f)) (Some t)) ≡ q) (sym (spelled_chars text value.utf8)) e) at;
       }

@@ -3,6 +3,7 @@
 
 mod clause;
 mod fault;
+pub mod laws;
 mod level;
 mod op;
 mod printing;

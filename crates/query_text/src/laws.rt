@@ -1,0 +1,25 @@
+//! Laws of printing: the text that a query prints as reads to it. Each function does nothing: its clause is
+//! the law.
+ghost use Rattle.std.specs.Prelude.{List};
+ghost use Rattle.field_schema.specs.declared.field.Field.{Field};
+ghost use Rattle.query_text.specs.PrintLaws.{AllPrintsBack, ExistsPrintsBack, TermPrintsBack, WordsPrintBack};
+
+/// `*:*` reads to the query that matches each document.
+pub fn all()
+    ensures { (fields : List Field) → AllPrintsBack fields }
+{}
+
+/// A name, a colon and `*` read to the documents with a value in the field.
+pub fn exists()
+    ensures { (fields : List Field) → ExistsPrintsBack fields }
+{}
+
+/// A quoted text of a field without tokens reads to its key, whatever characters it has.
+pub fn term()
+    ensures { (fields : List Field) → TermPrintsBack fields }
+{}
+
+/// A quoted text of tokens with a space between them reads to these tokens.
+pub fn words()
+    ensures { (fields : List Field) → WordsPrintBack fields }
+{}
