@@ -1,4 +1,5 @@
 pub mod Groups
+pub mod Joined
 pub mod Leaves
 pub mod Names
 pub mod Parts

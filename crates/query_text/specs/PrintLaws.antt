@@ -1,5 +1,5 @@
 -- When the printed text of a query reads to it.
-use Rattle.std.specs.Prelude.{ℕ, pos, ◌≡◌, ◌≤◌, List, [], true, false, ◌&&◌, Option, Some, Ok, slice_get}
+use Rattle.std.specs.Prelude.{ℕ, pos, ◌≡◌, ◌≤◌, List, [], length, Bool, true, false, ◌&&◌, ◌==◌, nat_le, Option, Some, Ok, slice_get}
 use Rattle.std.specs.Option.{option_map_or}
 use Rattle.std.specs.Str.{IsUtf8}
 use Rattle.field_schema.specs.declared.field.Field.{Field}
@@ -18,6 +18,10 @@ use Rattle.query_text.specs.Reads.{reading}
 abbrev pub PrintsBack : List Field → ℕ → Query → Type 0
 PrintsBack fields most q =
     (df : Option ℕ) → reading fields df op.Or most (printed fields q) ≡ Ok (record { query = q; cached = true; cost = pos 0 })
+
+-- at most one optional part and no other
+abbrev pub is_single : List Query → List Query → List Query → Bool
+is_single must should not_ = nat_le (length should) 1 && (length must == 0 && length not_ == 0)
 
 -- the field's name
 abbrev pub name_at : List Field → ℕ → List ℕ
