@@ -117,9 +117,18 @@ module _ (fields : List Field) (most d : ℕ) where
   spaced_reads true end l os ss r h reads = space_reads (or_setting fields) most end l os ss r h reads
   spaced_reads false end l os ss r h reads = reads
 
+  -- where a part stands before the rest, the rest goes on no `*`
+  abbrev pub BehindIf : List Query → List Shape → Type 0
+  BehindIf [] rest = Unit {0}
+  BehindIf (q ∷ qs) rest = IsBehind rest
+
+  if_behind : (qs : List Query) (rest : List Shape) → IsBehind rest → BehindIf qs rest
+  if_behind [] rest h = tt
+  if_behind (q ∷ qs) rest h = h
+
   -- parts with a sign before each lead to their clauses
   pub signed_reads : (end : ℕ) (df : Option ℕ) (named : Bool) (os : List Level) (sign : Option Sign) (qs : List Query) (ps : AllParts qs) (begun : Bool) (cs : List Clause) (rest : List Shape)
-      (r : Result Query QueryFault) → length os + d ≤ 64 → IsBehind rest → length cs + length qs ≤ most
+      (r : Result Query QueryFault) → length os + d ≤ 64 → BehindIf qs rest → length cs + length qs ≤ most
       → Reads (or_setting fields) most end (level df named (cs ++ clauses sign qs) None Here) os rest r
       → Reads (or_setting fields) most end (level df named cs None Here) os (signed_shapes begun sign qs ps rest) r
   signed_reads end df named os sign [] ps begun cs rest r deep behind room reads =
@@ -128,8 +137,7 @@ module _ (fields : List Field) (most d : ℕ) where
       let after : List Shape = signed_shapes true sign qs ps.1 rest in
       let here : HasRoom most cs None = lt-leb most (length cs) (omega arith) in
       let next : Reads (or_setting fields) most end (level df named (more cs sign q) None Here) os after r =
-      signed_reads end df named os sign qs ps.1 true (more cs sign q) rest r deep behind
-      (omega (arith, length-append cs ((record { before = None; sign = sign; query = q }) ∷ [])))
+      signed_reads end df named os sign qs ps.1 true (more cs sign q) rest r deep (if_behind qs rest behind) (omega (arith, length-append cs ((record { before = None; sign = sign; query = q }) ∷ [])))
       (subst (λ (ds : List Clause). Reads (or_setting fields) most end (level df named ds None Here) os rest r)
       (sym (append_assoc cs ((record { before = None; sign = sign; query = q }) ∷ []) (clauses sign qs))) reads) in
       spaced_reads begun end (level df named cs None Here) os (sign_shapes sign (ps.0.shapes after)) r

@@ -1,3 +1,4 @@
+pub mod Bools
 pub mod Groups
 pub mod Joined
 pub mod Leaves
