@@ -5,6 +5,7 @@ pub mod Leaves
 pub mod Names
 pub mod Parts
 pub mod Printed
+pub mod RangeParts
 pub mod SortTurns
 pub mod Sorting
 pub mod Steps

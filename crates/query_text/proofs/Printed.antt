@@ -130,7 +130,7 @@ flat_encodes : (cs : List ℕ) → flat_map encode_utf8 cs ≡ encodes cs
 flat_encodes [] = refl
 flat_encodes (c ∷ cs) = ap (λ (bs : List ℕ). encode_utf8 c ++ bs) (flat_encodes cs)
 
-spelled_chars : (text : List ℕ) → IsUtf8 text → flat_map encode_utf8 (chars text) ≡ text
+pub spelled_chars : (text : List ℕ) → IsUtf8 text → flat_map encode_utf8 (chars text) ≡ text
 spelled_chars text h = flat_encodes (chars text) ∙ encodes-chars text h
 
 module _ (fields : List Field) (most f : ℕ) where

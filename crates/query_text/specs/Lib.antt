@@ -6,3 +6,4 @@ pub mod Reads
 pub mod Sorts
 pub mod PrintLaws
 pub mod Printing
+pub mod Readable
