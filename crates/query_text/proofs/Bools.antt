@@ -72,8 +72,8 @@ module _ (fields : List Field) (most d : ℕ) where
       let after : List Shape = signed_shapes fields most d true sign qs ps.1 rest in
       space_bytes begun (sign_shapes sign (ps.0.shapes after))
       ∙ ap (λ (bs : List ℕ). (if begun then codes " " else []) ++ bs)
-          (sign_bytes sign (ps.0.shapes after)
-           ∙ ap (λ (bs : List ℕ). sign_text sign ++ bs) (ps.0.text after ∙ ap (λ (bs : List ℕ). part_text fields q ++ bs) (signed_bytes sign qs ps.1 true rest)))
+      (sign_bytes sign (ps.0.shapes after)
+      ∙ ap (λ (bs : List ℕ). sign_text sign ++ bs) (ps.0.text after ∙ ap (λ (bs : List ℕ). part_text fields q ++ bs) (signed_bytes sign qs ps.1 true rest)))
       ∙ five (if begun then codes " " else []) (sign_text sign) (part_text fields q) (signed true (sign_text sign) (map (part_text fields) qs)) (bytes_of rest)
 
   signed_fine : (sign : Option Sign) (qs : List Query) (ps : AllParts fields most d qs) (begun : Bool) (rest : List Shape)
@@ -110,8 +110,8 @@ filled [] [] [] h = absurd (true≢false h)
 abbrev inside_of : (fields : List Field) (most d : ℕ) (must should not_ : List Query) → AllParts fields most d must → AllParts fields most d should → AllParts fields most d not_ → List Shape → List Shape
 inside_of fields most d must should not_ pm ps pn rest =
     signed_shapes fields most d false (Some Required) must pm
-      (signed_shapes fields most d (is_begun (map (part_text fields) must)) None should ps
-        (signed_shapes fields most d (is_begun (map (part_text fields) must) || is_begun (map (part_text fields) should)) (Some Prohibited) not_ pn rest))
+    (signed_shapes fields most d (is_begun (map (part_text fields) must)) None should ps
+    (signed_shapes fields most d (is_begun (map (part_text fields) must) || is_begun (map (part_text fields) should)) (Some Prohibited) not_ pn rest))
 
 -- what each list of parts begins with is no `{`
 mark_in : (fields : List Field) (most d : ℕ) (must should not_ : List Query) (pm : AllParts fields most d must) (ps : AllParts fields most d should) (pn : AllParts fields most d not_) (at : ℕ)
@@ -143,15 +143,17 @@ module _ (fields : List Field) (most d : ℕ) (must should not_ : List Query) (p
   inside_bytes : (rest : List Shape) → bytes_of (inside_shapes rest) ≡ inside_text ++ bytes_of rest
   unfolding parts_text
   inside_bytes rest =
-      rw (signed_bytes fields most d (Some Required) must pm false (should_shapes rest),
-          signed_bytes fields most d None should ps second (not_shapes rest),
-          signed_bytes fields most d (Some Prohibited) not_ pn third rest)
+      rw (
+        signed_bytes fields most d (Some Required) must pm false (should_shapes rest),
+        signed_bytes fields most d None should ps second (not_shapes rest),
+        signed_bytes fields most d (Some Prohibited) not_ pn third rest,
+      )
       (simp append_assoc)
 
   inside_fine : (rest : List Shape) → IsFine rest → IsFine (inside_shapes rest)
   inside_fine rest h =
       signed_fine fields most d (Some Required) must pm false (should_shapes rest)
-        (signed_fine fields most d None should ps second (not_shapes rest) (signed_fine fields most d (Some Prohibited) not_ pn third rest h))
+      (signed_fine fields most d None should ps second (not_shapes rest) (signed_fine fields most d (Some Prohibited) not_ pn third rest h))
 
   inside_longer : (rest : List Shape) → length rest ≤ length (inside_shapes rest)
   inside_longer rest =
@@ -166,7 +168,7 @@ module _ (fields : List Field) (most d : ℕ) (must should not_ : List Query) (p
   third_is : (q : Query) (qs : List Query) → should ≡ q ∷ qs → third ≡ true
   third_is q qs e =
       or_right second (is_begun (map (part_text fields) should))
-        (subst (λ (ms : List Query). is_begun (map (part_text fields) ms) ≡ true) (sym e) (lt-ltb 0 (suc (length (map (part_text fields) qs))) (omega arith)))
+      (subst (λ (ms : List Query). is_begun (map (part_text fields) ms) ≡ true) (sym e) (lt-ltb 0 (suc (length (map (part_text fields) qs))) (omega arith)))
 
   third_from : second ≡ true → third ≡ true
   third_from h = rw h refl
@@ -189,21 +191,21 @@ module _ (fields : List Field) (most d : ℕ) (must should not_ : List Query) (p
       let cm : List Clause = clauses (Some Required) must in
       let co : List Clause = clauses None should in
       let last : Reads (or_setting fields) most end (level df named (cm ++ co) None Here) os (not_shapes rest) r =
-          signed_reads fields most d end df named os (Some Prohibited) not_ pn third (cm ++ co) rest r deep
-            (behind_if not_ rest (λ q qs e. behind))
-            (omega (arith, length-append cm co, length-clauses (Some Required) must, length-clauses None should))
-            (subst (λ (ds : List Clause). Reads (or_setting fields) most end (level df named ds None Here) os rest r)
-              (sym (append_assoc cm co (clauses (Some Prohibited) not_))) reads) in
+      signed_reads fields most d end df named os (Some Prohibited) not_ pn third (cm ++ co) rest r deep
+      (behind_if not_ rest (λ q qs e. behind))
+      (omega (arith, length-append cm co, length-clauses (Some Required) must, length-clauses None should))
+      (subst (λ (ds : List Clause). Reads (or_setting fields) most end (level df named ds None Here) os rest r)
+      (sym (append_assoc cm co (clauses (Some Prohibited) not_))) reads) in
       let middle : Reads (or_setting fields) most end (level df named cm None Here) os (should_shapes rest) r =
-          signed_reads fields most d end df named os None should ps second cm (not_shapes rest) r deep
-            (behind_if should (not_shapes rest) (λ q qs e. begun_behind third (Some Prohibited) not_ pn rest (third_is q qs e) behind))
-            (omega (arith, length-clauses (Some Required) must))
-            last in
+      signed_reads fields most d end df named os None should ps second cm (not_shapes rest) r deep
+      (behind_if should (not_shapes rest) (λ q qs e. begun_behind third (Some Prohibited) not_ pn rest (third_is q qs e) behind))
+      (omega (arith, length-clauses (Some Required) must))
+      last in
       signed_reads fields most d end df named os (Some Required) must pm false [] (should_shapes rest) r deep
-        (behind_if must (should_shapes rest)
-          (λ q qs e. begun_behind second None should ps (not_shapes rest) (second_is q qs e) (begun_behind third (Some Prohibited) not_ pn rest (third_from (second_is q qs e)) behind)))
-        (omega arith)
-        middle
+      (behind_if must (should_shapes rest)
+      (λ q qs e. begun_behind second None should ps (not_shapes rest) (second_is q qs e) (begun_behind third (Some Prohibited) not_ pn rest (third_from (second_is q qs e)) behind)))
+      (omega arith)
+      middle
 
   -- ---- in parentheses
 
@@ -213,7 +215,7 @@ module _ (fields : List Field) (most d : ℕ) (must should not_ : List Query) (p
   bool_text : (rest : List Shape) → bytes_of (own 40 ∷ inside_shapes (own 41 ∷ rest)) ≡ part_text fields (parts.Bool must should not_) ++ bytes_of rest
   bool_text rest =
       rw (bool_prints, encode_ascii 40 (omega arith), inside_bytes (own 41 ∷ rest), encode_ascii 41 (omega arith))
-        (ap (λ (bs : List ℕ). 40 ∷ bs) (sym (append_assoc inside_text (41 ∷ []) (bytes_of rest))))
+      (ap (λ (bs : List ℕ). 40 ∷ bs) (sym (append_assoc inside_text (41 ∷ []) (bytes_of rest))))
 
   closing_behind : (rest : List Shape) → IsBehind (own 41 ∷ rest)
   closing_behind rest = record { colon = λ at. rw (nothing_skipped (own 41 ∷ rest) at (λ at. refl)) refl; spoils = λ at. refl }
@@ -229,13 +231,13 @@ module _ (fields : List Field) (most d : ℕ) (must should not_ : List Query) (p
     mark = λ rest at. refl;
     reads = λ end df own_field cs sign os rest r deep behind begins reads.
         step (or_setting fields) most end (level df own_field cs sign Here) os (own 40 ∷ inside_shapes (own 41 ∷ rest)) (inside_shapes (own 41 ∷ rest)) r
-            (level df own_field [] None Here) (level df own_field cs sign Here ∷ os) (omega arith)
-          (opening_step (or_setting fields) most end df own_field cs sign os (inside_shapes (own 41 ∷ rest)) begins (lt-leb 64 (length os) (omega arith)))
-          (inside_reads end df own_field (level df own_field cs sign Here ∷ os) (own 41 ∷ rest) r (omega arith) (closing_behind rest) room
-            (step (or_setting fields) most end (level df own_field (all_clauses must should not_) None Here) (level df own_field cs sign Here ∷ os) (own 41 ∷ rest) rest r
-                (level df own_field (more cs sign (joined op.Or (all_clauses must should not_))) None Here) os (omega arith)
-              (closing_step (or_setting fields) most end df own_field cs sign os (all_clauses must should not_) rest (filled must should not_ several))
-              (subst (λ (q : Query). Reads (or_setting fields) most end (level df own_field (more cs sign q) None Here) os rest r) (sym (joined_all must should not_ several)) reads)));
+        (level df own_field [] None Here) (level df own_field cs sign Here ∷ os) (omega arith)
+        (opening_step (or_setting fields) most end df own_field cs sign os (inside_shapes (own 41 ∷ rest)) begins (lt-leb 64 (length os) (omega arith)))
+        (inside_reads end df own_field (level df own_field cs sign Here ∷ os) (own 41 ∷ rest) r (omega arith) (closing_behind rest) room
+        (step (or_setting fields) most end (level df own_field (all_clauses must should not_) None Here) (level df own_field cs sign Here ∷ os) (own 41 ∷ rest) rest r
+        (level df own_field (more cs sign (joined op.Or (all_clauses must should not_))) None Here) os (omega arith)
+        (closing_step (or_setting fields) most end df own_field cs sign os (all_clauses must should not_) rest (filled must should not_ several))
+        (subst (λ (q : Query). Reads (or_setting fields) most end (level df own_field (more cs sign q) None Here) os rest r) (sym (joined_all must should not_ several)) reads)));
   }
 
   -- ---- a whole text
@@ -247,10 +249,10 @@ module _ (fields : List Field) (most d : ℕ) (must should not_ : List Query) (p
       → PrintsBack fields most (parts.Bool must should not_)
   top_bool deep room all df =
       let text : printed fields (parts.Bool must should not_) ≡ bytes_of (inside_shapes []) =
-          top_along fields (parts.Bool must should not_) (node.Bool must should not_) (parts.outs-Bool must should not_) ∙ sym (inside_bytes [] ∙ append-nil inside_text) in
+      top_along fields (parts.Bool must should not_) (node.Bool must should not_) (parts.outs-Bool must should not_) ∙ sym (inside_bytes [] ∙ append-nil inside_text) in
       let fine : IsFine (inside_shapes []) = inside_fine [] (tt, refl) in
       let end : ℕ = length (bytes_of (inside_shapes [])) in
       rw text (whole_reads fields op.Or most df (inside_shapes []) (parts.Bool must should not_) fine.0 fine.1 first_mark
-        (inside_reads end df false [] [] (Ok (parts.Bool must should not_)) (omega arith) nothing_behind room
-          (subst (λ (q : Query). Reads (or_setting fields) most end (level df false (all_clauses must should not_) None Here) [] [] (Ok q)) all
-            (finished (or_setting fields) most end df false (all_clauses must should not_)))))
+      (inside_reads end df false [] [] (Ok (parts.Bool must should not_)) (omega arith) nothing_behind room
+      (subst (λ (q : Query). Reads (or_setting fields) most end (level df false (all_clauses must should not_) None Here) [] [] (Ok q)) all
+      (finished (or_setting fields) most end df false (all_clauses must should not_)))))

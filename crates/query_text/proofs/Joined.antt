@@ -60,12 +60,12 @@ unfolding marked
 marked_all m must should not_ =
     ap (λ (cs : List Clause). marked m op.Or (clauses (Some Required) must ++ (clauses None should ++ cs))) (sym (append-nil (clauses (Some Prohibited) not_)))
     ∙ marked_front m (Some Required) must (clauses None should ++ (clauses (Some Prohibited) not_ ++ []))
-        (conj_front None should (clauses (Some Prohibited) not_ ++ []) (conj_front (Some Prohibited) not_ [] refl))
+    (conj_front None should (clauses (Some Prohibited) not_ ++ []) (conj_front (Some Prohibited) not_ [] refl))
     ∙ ap (λ (qs : List Query). picked (same_mark m as_.Must) must ++ qs)
-        (marked_front m None should (clauses (Some Prohibited) not_ ++ []) (conj_front (Some Prohibited) not_ [] refl)
-         ∙ ap (λ (qs : List Query). picked (same_mark m as_.Should) should ++ qs) (marked_front m (Some Prohibited) not_ [] refl))
+    (marked_front m None should (clauses (Some Prohibited) not_ ++ []) (conj_front (Some Prohibited) not_ [] refl)
+    ∙ ap (λ (qs : List Query). picked (same_mark m as_.Should) should ++ qs) (marked_front m (Some Prohibited) not_ [] refl))
 
-sorted_all : (must should not_ : List Query) → sorted op.Or (all_clauses must should not_) ≡ parts.Bool must should not_
+pub sorted_all : (must should not_ : List Query) → sorted op.Or (all_clauses must should not_) ≡ parts.Bool must should not_
 unfolding sorted
 sorted_all must should not_ =
     let a : marked as_.Must op.Or (all_clauses must should not_) ≡ must = marked_all as_.Must must should not_ ∙ append-nil must in

@@ -6,6 +6,7 @@ pub mod Names
 pub mod Parts
 pub mod Printed
 pub mod RangeParts
+pub mod Readables
 pub mod SortTurns
 pub mod Sorting
 pub mod Steps

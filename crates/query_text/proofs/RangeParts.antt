@@ -104,25 +104,25 @@ module _ (fields : List Field) (most f : ℕ) where
     writes = λ rest.
         opening_bytes a (ends (chars_at a) (chars_at b) (square b) rest)
         ∙ ap (λ (bs : List ℕ). opening a ++ bs)
-            (end_bytes a (to (end_shapes (chars_at b) (stop (Some (square b)) ∷ rest))) h
-             ∙ ap (λ (bs : List ℕ). end_text a ++ bs)
-                 (to_bytes (end_shapes (chars_at b) (stop (Some (square b)) ∷ rest))
-                  ∙ ap (λ (bs : List ℕ). codes " TO " ++ bs)
-                      (end_bytes b (stop (Some (square b)) ∷ rest) k ∙ ap (λ (bs : List ℕ). end_text b ++ bs) (closing_bytes b rest))))
+        (end_bytes a (to (end_shapes (chars_at b) (stop (Some (square b)) ∷ rest))) h
+        ∙ ap (λ (bs : List ℕ). end_text a ++ bs)
+        (to_bytes (end_shapes (chars_at b) (stop (Some (square b)) ∷ rest))
+        ∙ ap (λ (bs : List ℕ). codes " TO " ++ bs)
+        (end_bytes b (stop (Some (square b)) ∷ rest) k ∙ ap (λ (bs : List ℕ). end_text b ++ bs) (closing_bytes b rest))))
         ∙ six (opening a) (end_text a) (codes " TO ") (end_text b) (closing b) (bytes_of rest);
     fine = λ rest fine.
         bracket_fine (square a) (ends (chars_at a) (chars_at b) (square b) rest)
-          (end_fine a (to (end_shapes (chars_at b) (stop (Some (square b)) ∷ rest))) h
-            (to_fine (end_shapes (chars_at b) (stop (Some (square b)) ∷ rest))
-              (end_fine b (stop (Some (square b)) ∷ rest) k (stop_fine (square b) rest fine))));
+        (end_fine a (to (end_shapes (chars_at b) (stop (Some (square b)) ∷ rest))) h
+        (to_fine (end_shapes (chars_at b) (stop (Some (square b)) ∷ rest))
+        (end_fine b (stop (Some (square b)) ∷ rest) k (stop_fine (square b) rest fine))));
     longer = λ rest.
         let x : length (stop (Some (square b)) ∷ rest) < length (end_shapes (chars_at b) (stop (Some (square b)) ∷ rest)) = end_longer b (stop (Some (square b)) ∷ rest) in
         let y : length (to (end_shapes (chars_at b) (stop (Some (square b)) ∷ rest))) < length (ends (chars_at a) (chars_at b) (square b) rest)
-            = end_longer a (to (end_shapes (chars_at b) (stop (Some (square b)) ∷ rest))) in
+        = end_longer a (to (end_shapes (chars_at b) (stop (Some (square b)) ∷ rest))) in
         omega arith;
     reads = λ end df own_field cs sign os rest behind at.
         range_step (or_setting fields) most end df own_field cs sign os f (square a) (square b) (chars_at a) (chars_at b) rest (query.Range f a b)
-          (end_number a h) (end_number b k) (range_same a b h k some) at;
+        (end_number a h) (end_number b k) (range_same a b h k some) at;
   }
 
   pub part_range : (d : ℕ) (a b : End) → IsNamed fields f → IsEnd fields f a → IsEnd fields f b → (is_open a && is_open b) ≡ false → Part fields most d (query.Range f a b)

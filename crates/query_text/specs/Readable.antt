@@ -32,15 +32,15 @@ pub data IsLeaf (fields : List Field) : Query → Type 0 where
 
 -- queries with at most d levels of parentheses: a Boolean one is no optional part alone, and has at most so many parts
 pub data AreReadable (fields : List Field) (most : ℕ) : ℕ → List Query → Type 0 where
-  none : {d : ℕ} → AreReadable fields most d []
-  leaf : {d : ℕ} (q : Query) (qs : List Query) → IsLeaf fields q → AreReadable fields most d qs → AreReadable fields most d (q ∷ qs)
+  no_more : {d : ℕ} → AreReadable fields most d []
+  one_more : {d : ℕ} (q : Query) (qs : List Query) → IsLeaf fields q → AreReadable fields most d qs → AreReadable fields most d (q ∷ qs)
   group : {d : ℕ} (must should not_ qs : List Query) → AreReadable fields most d must → AreReadable fields most d should → AreReadable fields most d not_
       → is_single must should not_ ≡ false → length must + length should + length not_ ≤ most
       → AreReadable fields most (suc d) qs → AreReadable fields most (suc d) (parts.Bool must should not_ ∷ qs)
 
 -- a whole query
 pub data IsReadable (fields : List Field) (most : ℕ) : Query → Type 0 where
-  leaf : (q : Query) → 1 ≤ most → IsLeaf fields q → IsReadable fields most q
+  alone : (q : Query) → 1 ≤ most → IsLeaf fields q → IsReadable fields most q
   blank : IsReadable fields most (parts.Bool [] [] [])
   bool : (must should not_ : List Query) → AreReadable fields most 64 must → AreReadable fields most 64 should → AreReadable fields most 64 not_
       → is_single must should not_ ≡ false → length must + length should + length not_ ≤ most

@@ -3,6 +3,7 @@
 ghost use Rattle.std.specs.Prelude.{List};
 ghost use Rattle.field_schema.specs.declared.field.Field.{Field};
 ghost use Rattle.query_text.specs.PrintLaws.{AllPrintsBack, ExistsPrintsBack, TermPrintsBack, WordsPrintBack};
+ghost use Rattle.query_text.specs.Readable.{ReadablePrintsBack};
 
 /// `*:*` reads to the query that matches each document.
 pub fn all()
@@ -22,4 +23,11 @@ pub fn term()
 /// A quoted text of tokens with a space between them reads to these tokens.
 pub fn words()
     ensures { (fields : List Field) → WordsPrintBack fields }
+{}
+
+/// The printed text of a readable query reads to it with `Or`, whatever the default field, and under the limit
+/// on clauses under which it is readable: terms, words, ranges, `*` and Boolean queries of these, nested in at most
+/// 64 pairs of parentheses. Prefixes are not among them.
+pub fn readable()
+    ensures { (fields : List Field) → ReadablePrintsBack fields }
 {}
