@@ -1,0 +1,11 @@
+pub mod Verdicts
+pub mod SpanKeys
+pub mod Covering
+pub mod Pieces
+pub mod Phrases
+pub mod Ascents
+pub mod Loops
+pub mod KindsOfQueries
+pub mod Parts
+pub mod Steps
+pub mod PhraseSteps

@@ -1,0 +1,16 @@
+//! Which documents of a view a query matches, and whether it matches one document.
+#![tactic(auto)]
+
+mod evaluating;
+mod matching;
+mod numbers;
+mod phrase;
+mod sets;
+mod span;
+mod walk;
+
+pub use evaluating::eval;
+pub use matching::matches;
+
+#[cfg(test)]
+mod tests;

@@ -1,0 +1,162 @@
+//! Phrases, by the places of their words.
+ghost use Rattle.std.specs.Prelude.{◌≡◌, ◌+◌, IfOk, not, ◌&&◌, map, filter};
+ghost use Rattle.std.specs.List.{list_any};
+ghost use Rattle.field_schema.specs.Values.{values_at};
+ghost use Rattle.query_tree.specs.Matches.{has_words, is_empty};
+ghost use Rattle.segment_postings.specs.Postings.{postings_of};
+ghost use Rattle.field_schema.specs.declared.key.Key.TheVariants as key;
+ghost use Rattle.query_eval.specs.Found.{found};
+ghost use Rattle.query_eval.specs.Kept.{Kept, IsSound};
+ghost use Rattle.query_eval.specs.Runs.{followed_by, is_place, same_place, from_doc, starts_at_first, filled_numbers, DocsRise};
+
+use doc_sets::{DocNo, DocSet};
+use field_schema::{FieldNo, Key, NoMemory, Text};
+use segment_postings::{Places, Posting, Reads};
+use std::alloc::Global;
+
+// The documents in one of whose texts the words stand in turn. It walks the words' postings and places, once each.
+pub(crate) fn phrase<P: Reads>(
+    alloc: Global,
+    probe: &mut P,
+    field: FieldNo,
+    words: &[Text],
+) -> Result<DocSet, NoMemory>
+    requires { IsSound (P.view probe.old) (P.terms probe.old) }
+    ensures found { IfOk result (λ s. s ≡ found (λ d. not (is_empty words.now) && list_any (has_words words.now) (values_at d.values field)) (P.view probe.old)) }
+    ensures kept { Kept P.view P.terms P.counted probe.old probe.new }
+{
+    let Some((first, others)) = words.split_first() else {
+        return Ok(DocSet::new(alloc));
+    };
+    let mut held = word(alloc, probe, field, first)?;
+    for (i, text) in others.iter().enumerate() {
+        let next = word(alloc, probe, field, text)?;
+        held = followed(alloc, held.as_slice(), next.as_slice(), i + 1)?;
+    }
+    let numbers = filled(alloc, held.as_slice())?;
+    let Ok(all) = DocSet::from_sorted(alloc, numbers.as_slice()) else {
+        return Err(NoMemory);
+    };
+    Ok(all)
+}
+
+// The postings of a word.
+fn word<P: Reads>(
+    alloc: Global,
+    probe: &mut P,
+    field: FieldNo,
+    text: &Text,
+) -> Result<Vec<Posting>, NoMemory>
+    ensures found { IfOk result (λ v. v.items ≡ postings_of (P.view probe.old) field (key.Token text.now)) }
+    ensures kept { Kept P.view P.terms P.counted probe.old probe.new }
+{
+    let key = Key::Token(text.copy(alloc)?);
+    probe.postings(alloc, field, &key)
+}
+
+// Each posting with those of its places that a place of the next word follows, `offset` tokens on.
+fn followed(
+    alloc: Global,
+    held: &[Posting],
+    next: &[Posting],
+    offset: usize,
+) -> Result<Vec<Posting>, NoMemory>
+    requires held_rise { DocsRise held.now }
+    requires next_rise { DocsRise next.now }
+    ensures { IfOk result (λ v. v.items ≡ map (followed_by next.now offset) held.now) }
+{
+    let mut found = Vec::with_capacity(alloc, held.len())?;
+    let mut rest = next;
+    for posting in held {
+        rest = skip_docs(rest, posting.doc);
+        let places = starts_in(alloc, posting, rest, offset)?;
+        found.push(Posting {
+            doc: posting.doc,
+            places: Places::new(places),
+        })?;
+    }
+    Ok(found)
+}
+
+// The postings from a number on.
+fn skip_docs(postings: &[Posting], doc: DocNo) -> &[Posting]
+    ensures { result.now ≡ from_doc doc postings.now }
+{
+    let mut rest = postings;
+    while let Some((first, others)) = rest.split_first() {
+        if first.doc >= doc {
+            break;
+        }
+        rest = others;
+    }
+    rest
+}
+
+// The places of a posting that are followed in the first of the next word's postings, if it is of the same document.
+fn starts_in(
+    alloc: Global,
+    posting: &Posting,
+    next: &[Posting],
+    offset: usize,
+) -> Result<Vec<(u32, u32)>, NoMemory>
+    ensures { IfOk result (λ v. v.items ≡ filter (λ p. starts_at_first next.now posting.now.doc offset p) posting.now.places) }
+{
+    let Some((first, _)) = next.split_first() else {
+        return Ok(Vec::new(alloc));
+    };
+    if first.doc == posting.doc {
+        starts(alloc, posting.places.get(), first.places.get(), offset)
+    } else {
+        Ok(Vec::new(alloc))
+    }
+}
+
+// The places that a place of others follows, `offset` tokens on.
+fn starts(
+    alloc: Global,
+    places: &[(u32, u32)],
+    others: &[(u32, u32)],
+    offset: usize,
+) -> Result<Vec<(u32, u32)>, NoMemory>
+    ensures { IfOk result (λ v. v.items ≡ filter (λ p. is_place (p.0, p.1 + offset) others.now) places.now) }
+{
+    let mut found = Vec::new(alloc);
+    for place in places {
+        if has_place(others, place, offset) {
+            found.push(*place)?;
+        }
+    }
+    Ok(found)
+}
+
+// Whether one of the places is `offset` tokens behind a place.
+fn has_place(others: &[(u32, u32)], place: &(u32, u32), offset: usize) -> bool
+    ensures { result ≡ is_place (place.now.0, place.now.1 + offset) others.now }
+{
+    for other in others {
+        if is_at(other, place, offset) {
+            return true;
+        }
+    }
+    false
+}
+
+// Whether a place is the one that is `offset` tokens behind another.
+fn is_at(other: &(u32, u32), place: &(u32, u32), offset: usize) -> bool
+    ensures { result ≡ same_place (place.now.0, place.now.1 + offset) other.now }
+{
+    other.0 == place.0 && other.1 >= place.1 && (other.1 - place.1) as usize == offset
+}
+
+// The numbers of the postings that have a place.
+fn filled(alloc: Global, postings: &[Posting]) -> Result<Vec<DocNo>, NoMemory>
+    ensures { IfOk result (λ v. v.items ≡ filled_numbers postings.now) }
+{
+    let mut numbers = Vec::new(alloc);
+    for posting in postings {
+        if !posting.places.get().is_empty() {
+            numbers.push(posting.doc)?;
+        }
+    }
+    Ok(numbers)
+}
