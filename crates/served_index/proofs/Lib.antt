@@ -1,0 +1,5 @@
+pub mod Slots
+pub mod Leaving
+pub mod Numbering
+pub mod Indexing
+pub mod Finding

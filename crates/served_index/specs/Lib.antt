@@ -1,0 +1,3 @@
+pub mod IndexState
+pub mod Pendings
+pub mod Standing

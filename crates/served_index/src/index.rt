@@ -1,0 +1,245 @@
+ghost use Rattle.std.specs.Prelude.{◌≡◌, ◌<◌, ◌≤◌, ◌+◌, [], OnOk, OnErr, IfOk, length, map, take, drop};
+ghost use Rattle.std.specs.Arc.{arc_value};
+ghost use Rattle.search_model.specs.Live.{added, deleted_id, deleted_query, after};
+ghost use Rattle.served_index.specs.IndexState.{hits};
+ghost use Rattle.doc_model.specs.Document.{IsIdAt};
+ghost use Rattle.doc_sets.specs.declared.TheConstants.{MAX_DOCS};
+ghost use Rattle.segment_postings.specs.Numbered.{docs};
+
+use crate::gone::{all_gone, numbers_with_id, set_of};
+use crate::pending::Pending;
+use crate::search::{hit_numbers, matching_numbers, stored, window};
+use doc_model::Doc;
+use doc_sets::DocNo;
+use field_schema::{FieldNo, NoMemory, Text};
+use query_tree::Query;
+use segment_postings::View;
+use std::alloc::Global;
+use std::marker::Model;
+use std::sync::Arc;
+
+/// The documents that the updates so far leave, and those that the current searcher sees. Contracts see both lists in
+/// index order, how many document numbers are taken, and the place of the unique key's field.
+///
+/// The current searcher sees a view that is never changed. Beside it stand the numbers of its documents that were
+/// replaced or deleted since, and the documents that were added since. So an opening copies no document.
+#[derive(Drop)]
+pub struct Index {
+    current: View,
+    // They stand in the order in which they went, and one may stand twice.
+    gone: Vec<DocNo>,
+    pending: Pending,
+    // How many documents were added in each segment of the view. They only tell which segments to merge.
+    sizes: Vec<u32>,
+    key: FieldNo,
+}
+
+impl Model for Index {
+    ghost use Rattle.served_index.specs.IndexState.{IndexState};
+    ghost use Rattle.served_index.specs.Standing.{state, IsIndex};
+
+    ghost Value = { IndexState };
+
+    ghost view = { λ p. state p.current.seen p.gone.items p.pending p.key };
+
+    ghost invariant = { λ p. IsIndex p.current.seen p.gone.items p.pending p.key };
+}
+
+// An opening leaves no more segments than these.
+const MOST_SEGMENTS: u32 = 10;
+
+impl Index {
+    /// No document. The unique key stands in the field `key`.
+    ///
+    /// Fails only for want of memory.
+    pub fn new(alloc: Global, key: FieldNo) -> Result<Index, NoMemory>
+        ensures docs { IfOk result (λ p. p.docs ≡ []) }
+        ensures served { IfOk result (λ p. p.served ≡ []) }
+        ensures numbers { IfOk result (λ p. p.numbers ≡ 0) }
+        ensures key { IfOk result (λ p. p.key ≡ key) }
+    {
+        Ok(Index {
+            current: View::empty(alloc)?,
+            gone: Vec::new(alloc),
+            pending: Pending::new(alloc),
+            sizes: Vec::new(alloc),
+            key,
+        })
+    }
+
+    /// How many document numbers are taken: those of the view, and one for each document added since the opening. It
+    /// costs nothing.
+    pub fn numbers(&self) -> u32
+        ensures numbers { result ≡ self.now.numbers }
+        ensures most { result ≤ MAX_DOCS }
+    {
+        self.current.size() + self.pending.len()
+    }
+
+    /// The unique key's field. It costs nothing.
+    pub fn key(&self) -> FieldNo
+        ensures { result ≡ self.now.key }
+    {
+        self.key
+    }
+
+    /// Adds a document, last, in place of the one with its unique key. It takes a document number, which the next
+    /// opening gives back if the document is replaced or deleted before.
+    ///
+    /// Fails only for want of memory, and then all documents are as before. It costs the postings of the unique key in
+    /// each segment, and a search among the unique keys of the documents added since the opening.
+    pub fn add(&mut self, alloc: Global, doc: Doc) -> Result<(), NoMemory>
+        requires room { self.old.numbers < MAX_DOCS }
+        requires id { IsIdAt doc self.old.key }
+        ensures ok { OnOk result (self.new.docs ≡ after self.old.docs (added doc)) }
+        ensures err { OnErr result (self.new.docs ≡ self.old.docs) }
+        ensures served { self.new.served ≡ self.old.served }
+        ensures numbers { self.new.numbers ≤ self.old.numbers + 1 }
+        ensures key { self.new.key ≡ self.old.key }
+    {
+        let doc = Arc::new(alloc, doc)?;
+        let found = numbers_with_id(alloc, &self.current, self.key, doc.id())?;
+        let before = self.gone.len();
+        self.gone.extend_from_slice(found.as_slice())?;
+        match self.pending.put(alloc, doc) {
+            Ok(()) => Ok(()),
+            Err(fault) => {
+                self.gone.truncate(before);
+                Err(fault)
+            }
+        }
+    }
+
+    /// Deletes the document with a unique key, if there is one.
+    ///
+    /// Fails only for want of memory, and then all documents are as before. It costs what an add costs.
+    pub fn delete_id(&mut self, alloc: Global, id: &str) -> Result<(), NoMemory>
+        ensures ok { OnOk result (self.new.docs ≡ after self.old.docs (deleted_id id.now)) }
+        ensures err { OnErr result (self.new.docs ≡ self.old.docs) }
+        ensures served { self.new.served ≡ self.old.served }
+        ensures numbers { self.new.numbers ≤ self.old.numbers }
+        ensures key { self.new.key ≡ self.old.key }
+    {
+        let id = Text::from_str(alloc, id)?;
+        let found = numbers_with_id(alloc, &self.current, self.key, &id)?;
+        self.gone.extend_from_slice(found.as_slice())?;
+        self.pending.remove(&id);
+        Ok(())
+    }
+
+    /// Deletes each document that a query matches.
+    ///
+    /// Fails only for want of memory, and then all documents are as before. It costs the evaluation of the query on the
+    /// current view, a sort of the numbers that are gone, and for each document added since the opening a match and a
+    /// search among their unique keys.
+    pub fn delete_query(&mut self, alloc: Global, query: &Query) -> Result<(), NoMemory>
+        ensures ok { OnOk result (self.new.docs ≡ after self.old.docs (deleted_query query.now)) }
+        ensures err { OnErr result (self.new.docs ≡ self.old.docs) }
+        ensures served { self.new.served ≡ self.old.served }
+        ensures numbers { self.new.numbers ≤ self.old.numbers }
+        ensures key { self.new.key ≡ self.old.key }
+    {
+        let found = matching_numbers(alloc, &self.current, query)?;
+        let gone = all_gone(alloc, &self.gone, &found)?;
+        let pending = self.pending.without(alloc, query)?;
+        self.gone = gone;
+        self.pending = pending;
+        Ok(())
+    }
+
+    /// Opens a searcher, which sees the documents as they stand.
+    ///
+    /// Fails only for want of memory, and then all is as before. It costs a pass over the documents added since the
+    /// last opening and a sort of their keys, a sort of the numbers that are gone, a step for each 64 numbers, and
+    /// where there are more than ten segments the merge of neighbours.
+    pub fn open(&mut self, alloc: Global) -> Result<(), NoMemory>
+        ensures ok { OnOk result (self.new.served ≡ self.old.docs) }
+        ensures err { OnErr result (self.new.served ≡ self.old.served) }
+        ensures docs { self.new.docs ≡ self.old.docs }
+        ensures numbers { self.new.numbers ≤ self.old.numbers }
+        ensures key { self.new.key ≡ self.old.key }
+    {
+        let gone = set_of(alloc, &self.gone)?;
+        let added = self.pending.shared(alloc)?;
+        let mut sizes = self.sizes.to_vec(alloc)?;
+        if !added.is_empty() {
+            sizes.push(added.len() as u32)?;
+        }
+        let extended = self.current.extend(alloc, added, &gone)?;
+        let current = settled(alloc, extended, &mut sizes)?;
+        self.current = current;
+        self.gone = Vec::new(alloc);
+        self.pending = Pending::new(alloc);
+        self.sizes = sizes;
+        Ok(())
+    }
+
+    /// Those of the documents that match a query and every filter and that the current searcher sees, `rows` of them
+    /// without the first `start`, and how many there are.
+    ///
+    /// Fails only for want of memory. It costs the evaluation of the query and of each filter, a step for each of the
+    /// first `start` documents, and the page.
+    pub fn search(
+        &self,
+        alloc: Global,
+        query: &Query,
+        filters: &[&Query],
+        start: u32,
+        rows: u32,
+    ) -> Result<(Vec<Arc<Doc>>, u32), NoMemory>
+        ensures found { IfOk result (λ r. r.1
+            ≡ length (hits self.now.served query.now (map (λ q. q.now) filters.now))) }
+        ensures page { IfOk result (λ r. map arc_value r.0.items
+            ≡ take rows (drop start
+            (hits self.now.served query.now (map (λ q. q.now) filters.now)))) }
+    {
+        let found = hit_numbers(alloc, &self.current, query, filters)?;
+        let numbers = window(alloc, &found, start, rows)?;
+        let page = stored(alloc, &self.current, &numbers)?;
+        Ok((page, found.len()))
+    }
+}
+
+// The view with neighbours merged until there are no more segments than ten, at the first pair with the fewest
+// documents each time.
+fn settled(alloc: Global, view: View, sizes: &mut Vec<u32>) -> Result<View, NoMemory>
+    ensures docs { IfOk result (λ v. docs v.seen ≡ docs view.seen) }
+    ensures size { IfOk result (λ v. v.seen.size ≤ view.seen.size) }
+{
+    let mut settled = view;
+    while settled.segments() > MOST_SEGMENTS {
+        let at = smallest_pair(sizes.as_slice()).min(settled.segments() - 2);
+        settled = settled.merge(alloc, at)?;
+        join_sizes(sizes, at);
+    }
+    Ok(settled)
+}
+
+// The place of the first pair of neighbours with the least sum, or 0 where there is no pair.
+fn smallest_pair(sizes: &[u32]) -> u32 {
+    let mut place = 0;
+    let mut least = u64::MAX;
+    let mut last: Option<u32> = None;
+    let mut at: u32 = 0;
+    for &size in sizes {
+        if let Some(last) = last {
+            let sum = u64::from(last) + u64::from(size);
+            if sum < least {
+                least = sum;
+                place = at;
+            }
+            at = at.saturating_add(1);
+        }
+        last = Some(size);
+    }
+    place
+}
+
+// Adds the size behind a place to that at the place, where both are there.
+fn join_sizes(sizes: &mut Vec<u32>, at: u32) {
+    let at = at as usize;
+    if at + 1 < sizes.len() {
+        let moved = sizes.remove(at + 1);
+        sizes[at] = sizes[at].saturating_add(moved);
+    }
+}

@@ -1,0 +1,12 @@
+//! The documents that the updates so far leave, and the view of them that the current searcher sees.
+#![tactic(auto)]
+
+mod gone;
+mod index;
+mod pending;
+mod search;
+
+pub use index::Index;
+
+#[cfg(test)]
+mod tests;
