@@ -1,5 +1,5 @@
 -- What a request's row makes the run do.
-use Rattle.std.proofs.Common.{◌≡◌, ℕ, ◌+◌, ◌<◌, ◌≤◌, List, [], ◌∷◌, ◌++◌, length, map, Bool, true, false, not, filter, cond, Option, Some, None, Result, Ok, Err, refl, sym, ap, subst, ◌∙◌, inl, inr, arith, length-append, codes}
+use Rattle.std.proofs.Common.{◌≡◌, ℕ, ◌+◌, ◌^◌, ◌<◌, ◌≤◌, List, [], ◌∷◌, ◌++◌, length, map, Bool, true, false, not, filter, cond, Option, Some, None, Result, Ok, Err, IfOk, OnOk, refl, sym, ap, subst, ◌∙◌, inl, inr, arith, length-append, codes}
 use Rattle.std.specs.Option.{option_map_or}
 use Rattle.std.specs.Result.{result_map_both}
 use Rattle.std.proofs.lemmas.List.{map-append}
@@ -9,20 +9,23 @@ use Rattle.search_model.specs.Live.{Change, added, after, has_id}
 use Rattle.search_model.specs.Answer.{Asked, answer}
 use Rattle.search_model.specs.Messages.{doc_message}
 use Rattle.search_model.specs.Reply.{Outcome, accepted, found, refused, no_memory}
-use Rattle.search_model.specs.TermQuery.{asked_of}
+use Rattle.request_form.specs.Deletes.{delete_of}
+use Rattle.request_form.specs.Messages.{request_message}
+use Rattle.request_form.specs.Params.{params_of}
 use Rattle.script_form.specs.declared.config.Config.{Config}
 use Rattle.run_laws.specs.Rows.{RequestRow}
 use Rattle.run_laws.specs.Calls.{Call}
-use Rattle.run_laws.specs.CallReadings.{commit_of}
+use Rattle.run_laws.specs.CallReadings.{change_by, commit_of, defaults_of, query_of}
 use Rattle.run_laws.specs.Lawful.{Shows}
 use Rattle.run_history.specs.Tellings.{Wanted, an_update, a_searcher, an_answer, form_wants, wants}
 use Rattle.run_history.specs.Agreement.{RepliesIdly}
 use Rattle.client_runner.specs.declared.rows.Verb.TheVariants as Verb
 use Rattle.client_runner.specs.declared.runner.Head.{Head}
 use Rattle.client_runner.specs.declared.runner.Reply.{Reply}
-use Rattle.client_runner.specs.Runs.{Follows}
+use Rattle.field_schema.specs.declared.memory.NoMemory.{NoMemory}
+use Rattle.client_runner.specs.Runs.{AnswersBy, Follows}
 use Rattle.client_runner.specs.declared.rows.RequestRow as rows
-use Rattle.client_runner.specs.Standings.{Standing, HasRoom, Shown, acquired, call_of, changed, opened, shown_row, told_too}
+use Rattle.client_runner.specs.Standings.{Standing, IsRefusal, Shown, acquired, call_of, changed, opened, shown_row, told_too}
 use Rattle.client_runner.specs.Views.{verb_view, request_view}
 use Rattle.client_runner.proofs.Follows.{idle_follows, update_follows, query_follows, opening_follows}
 
@@ -31,10 +34,11 @@ use Rattle.client_runner.proofs.Follows.{idle_follows, update_follows, query_fol
 pub wants_add : (c : Config) (h : Head) (body : List ℕ) → h.verb ≡ Verb.Add → wants c (call_of h body) ≡ result_map_both an_update (λ m. m) (result_map_both added doc_message (doc_of c.schema body))
 wants_add c h body e = ap (λ v. wants c (record { phase = h.phase; client = h.client; line = h.line; verb = verb_view v; body = body })) e
 
-pub wants_delete : (c : Config) (h : Head) (body : List ℕ) → h.verb ≡ Verb.Delete → wants c (call_of h body) ≡ Err (codes "NotBuilt")
+pub wants_delete : (c : Config) (h : Head) (body : List ℕ) → h.verb ≡ Verb.Delete
+    → wants c (call_of h body) ≡ result_map_both an_update (λ m. m) (result_map_both change_by request_message (delete_of c.schema.list (defaults_of c) (params_of body)))
 wants_delete c h body e = ap (λ v. wants c (record { phase = h.phase; client = h.client; line = h.line; verb = verb_view v; body = body })) e
 
-pub wants_query : (c : Config) (h : Head) (body : List ℕ) → h.verb ≡ Verb.Query → wants c (call_of h body) ≡ result_map_both an_answer (λ m. m) (option_map_or Ok (asked_of c.schema body) (Err (codes "NotBuilt")))
+pub wants_query : (c : Config) (h : Head) (body : List ℕ) → h.verb ≡ Verb.Query → wants c (call_of h body) ≡ result_map_both an_answer (λ m. m) (query_of c body)
 wants_query c h body e = ap (λ v. wants c (record { phase = h.phase; client = h.client; line = h.line; verb = verb_view v; body = body })) e
 
 pub wants_commit : (c : Config) (h : Head) (body : List ℕ) → h.verb ≡ Verb.Commit → wants c (call_of h body) ≡ result_map_both form_wants (λ m. m) (commit_of body)
@@ -87,12 +91,18 @@ module _ (c : Config) (h : Head) (body : List ℕ) (st : Standing) (r : Reply) (
 
   -- a commit opened a searcher at this place
   pub opened_follows : (place generation : ℕ) (new : Standing) → row ≡ shown_row h (Some place) (Some generation) None r → place ≡ st.place → generation ≡ st.current.generation + 1 → Shown c accepted r
-      → wants c (call_of h body) ≡ Ok a_searcher → 0 < c.max_warming → HasRoom 1 st → new ≡ opened st → Follows c (call_of h body) st (told_too new row)
-  opened_follows place generation new e p g s w room left n =
+      → wants c (call_of h body) ≡ Ok a_searcher → 0 < c.max_warming → st.current.generation + 1 < 2 ^ 27 → new ≡ opened st → Follows c (call_of h body) st (told_too new row)
+  opened_follows place generation new e p g s w room within n =
       subst (λ (x : Standing). Follows c (call_of h body) st (told_too x row)) (sym n)
       (subst (λ (x : RequestRow). Follows c (call_of h body) st (told_too (opened st) x)) (sym e)
       (opening_follows c (call_of h body) st (shown_row h (Some place) (Some generation) None r) refl w (record { place = ap Some p; generation = ap Some g; ticket = refl })
-      (shows_of_shown c accepted h (Some place) (Some generation) None r s) room left.generation))
+      (shows_of_shown c accepted h (Some place) (Some generation) None r s) room within))
+
+-- a request that was refused, by the row that was made for it
+pub refusal_answers : (c : Config) (h : Head) (body : List ℕ) (st : Standing) (m : List ℕ) (r : Result rows.RequestRow NoMemory) (lacks : Bool)
+    → OnOk r (lacks ≡ false) → IfOk r (IsRefusal c h m) → (lacks ≡ false → wants c (call_of h body) ≡ Err m) → IfOk r (AnswersBy c (call_of h body) st st)
+refusal_answers c h body st m (Ok row) lacks known is w = refused_follows c h body st is.reply (request_view row) m is.row_is is.shown (w known)
+refusal_answers c h body st m (Err e) lacks known is w = tt
 
 -- the same from and to standings that are these
 pub follows_at : (c : Config) (call : Call) (old old' new new' : Standing) → old' ≡ old → new' ≡ new → Follows c call old new → Follows c call old' new'
@@ -108,30 +118,3 @@ same_rows st before now e = ap (λ (xs : List rows.RequestRow). record st { rows
 -- where one row is put behind the others, it is told too
 pub one_row_more : (st : Standing) (before now : List rows.RequestRow) (row : rows.RequestRow) → now ≡ before ++ row ∷ [] → record st { rows = map request_view now } ≡ told_too (record st { rows = map request_view before }) (request_view row)
 one_row_more st before now row e = ap (λ (xs : List RequestRow). record st { rows = xs }) (ap (map request_view) e ∙ map-append request_view before (row ∷ []))
-
--- ---- the room that is left
-
-filter_short : {A : Type 0} (p : A → Bool) (xs : List A) → length (filter p xs) ≤ length xs
-filter_short p [] = omega arith
-filter_short p (x ∷ xs) =
-    elim (p x) as (λ b. length (cond b (x ∷ filter p xs) (filter p xs)) ≤ length (x ∷ xs)) [
-      | true ↦ let h = filter_short p xs in omega arith
-      | false ↦ let h = filter_short p xs in omega arith
-    ]
-
-after_short : (docs : List Document) (d : Document) → length (after docs (added d)) ≤ length docs + 1
-after_short docs d =
-    let h = filter_short (λ e. not (has_id d.id e)) docs in
-    omega (arith, length-append (filter (λ e. not (has_id d.id e)) docs) (d ∷ []))
-
-pub changed_room : (st : Standing) (d : Document) (n : ℕ) → HasRoom (n + 1) st → HasRoom n (changed (added d) st)
-changed_room st d n h = record {
-  place = omega (arith, h.place);
-  generation = omega (arith, h.generation);
-  acquired = omega (arith, h.acquired);
-  served = omega (arith, h.served);
-  docs = omega (arith, h.docs, after_short st.docs d);
-}
-
-pub told_room : (st : Standing) (row : RequestRow) (n : ℕ) → HasRoom n st → HasRoom n (told_too st row)
-told_room st row n h = record { place = h.place; generation = h.generation; acquired = h.acquired; served = h.served; docs = h.docs }

@@ -1,12 +1,9 @@
+pub mod Ready
+pub mod Readings
 pub mod Clients
-pub mod Slots
-pub mod Seen
-pub mod Words
 pub mod Floats
-pub mod Filters
 pub mod Rising
 pub mod Replies
-pub mod Commits
 pub mod LineTexts
 pub mod Joins
 pub mod Follows

@@ -10,7 +10,7 @@ use Rattle.run_history.specs.Tellings.{Telling, Life}
 use Rattle.run_history.specs.Serial.{Stand, Serves, ComesLast}
 use Rattle.client_runner.specs.Histories.{Event, reading, limits}
 use Rattle.client_runner.specs.declared.rows.RequestRow.{RequestRow}
-use Rattle.client_runner.specs.Standings.{Standing, HasRoom, searchers_of, told_too}
+use Rattle.client_runner.specs.Standings.{Standing, searchers_of, told_too}
 use Rattle.client_runner.specs.Views.{request_view}
 
 -- what the run keeps of the history
@@ -60,7 +60,3 @@ TakesLine c phase line old new = FollowsIf c (call_as phase line.number line.wha
 -- The request was served next, and this row tells it.
 abbrev pub AnswersBy : Config → Call → Standing → Standing → RequestRow → Type 0
 AnswersBy c call old new row = Follows c call old (told_too new (request_view row))
-
--- room for one request less is left
-abbrev pub LeavesRoom : Standing → Standing → Type 0
-LeavesRoom old new = (n : ℕ) → HasRoom (n + 1) old → HasRoom n new

@@ -2,13 +2,14 @@
 use Rattle.std.specs.Prelude.{◌≡◌, ℕ, ◌+◌, ◌*◌, ◌<◌, ◌^◌, List, [], ◌∷◌, ◌++◌, length, map, true, Option, Some, None}
 use Rattle.script_form.specs.declared.config.Config.{Config}
 use Rattle.doc_model.specs.Document.{Document}
-use Rattle.query_tree.specs.declared.query.Query.{Query}
+use Rattle.request_form.specs.declared.request.Request.{Request}
 use Rattle.search_model.specs.Live.{Change, after}
 use Rattle.search_model.specs.Answer.{answer}
-use Rattle.search_model.specs.Reply.{Outcome, found, reply_text, code_of, found_of, docs_of}
-use Rattle.search_model.specs.TermQuery.{first_ten}
+use Rattle.search_model.specs.Reply.{Outcome, found, refused, reply_text, code_of, found_of, docs_of}
 use Rattle.run_laws.specs.Rows.{RequestRow, SearcherRow}
 use Rattle.run_laws.specs.Calls.{Call}
+use Rattle.run_laws.specs.CallReadings.{asked_by}
+use Rattle.client_runner.specs.declared.rows.RequestRow as rows
 use Rattle.client_runner.specs.declared.runner.Head.{Head}
 use Rattle.client_runner.specs.declared.runner.Reply.{Reply}
 use Rattle.client_runner.specs.declared.runner.Runner.{Runner}
@@ -43,14 +44,6 @@ first = record {
   earlier = [];
   current = record { generation = 1; opened = 0; ended = 1; registered = true; acquired = 0; from = None };
 }
-
--- its numbers leave room for n more requests
-pub record HasRoom (n : ℕ) (st : Standing) : Type 0 where
-  pub place : st.place + 2 * n < 2 ^ 64
-  pub generation : st.current.generation + n < 2 ^ 27
-  pub acquired : st.current.acquired + n < 2 ^ 32
-  pub served : length st.served + n < 2 ^ 32
-  pub docs : length st.docs + n < 2 ^ 32
 
 -- ---- what is done
 
@@ -96,9 +89,9 @@ searchers_of st = st.earlier ++ st.current ∷ []
 abbrev pub call_of : Head → List ℕ → Call
 call_of h body = record { phase = h.phase; client = h.client; line = h.line; verb = verb_view h.verb; body = body }
 
--- the outcome of a query for the first ten documents
-abbrev pub found_first_ten : List Document → Query → Outcome
-found_first_ten docs q = found (first_ten q) (answer docs (first_ten q))
+-- the outcome of a request that is answered on these documents
+abbrev pub found_by : List Document → Request → Outcome
+found_by docs r = found (asked_by r) (answer docs (asked_by r))
 
 -- the reply shows this outcome
 pub record Shown (c : Config) (o : Outcome) (r : Reply) : Type 0 where
@@ -120,3 +113,9 @@ shown_row h place generation ticket r = record {
   found = r.found;
   docs = r.docs;
 }
+
+-- the row of a request that was refused with a message
+pub record IsRefusal (c : Config) (h : Head) (message : List ℕ) (row : rows.RequestRow) : Type 0 where
+  pub reply : Reply
+  pub row_is : request_view row ≡ shown_row h None None None reply
+  pub shown : Shown c (refused message) reply

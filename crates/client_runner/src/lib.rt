@@ -3,20 +3,18 @@
 //! The runner is serial: it takes a phase's clients one after another and finishes each searcher at once.
 #![tactic(auto)]
 
-mod index;
 mod laws;
+mod messages;
 mod order;
 mod output;
 mod reply;
 mod rows;
 mod run;
 mod runner;
-mod search;
 mod serve;
-mod term_query;
 
 pub use laws::every_script_has_a_lawful_output;
 pub use output::output_text;
 pub use rows::{Output, RequestRow, RequestRows, SearcherList, SearcherRow, Verb};
 pub use run::run_script;
-pub use term_query::query_term;
+pub use serve::defaults;

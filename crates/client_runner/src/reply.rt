@@ -1,14 +1,11 @@
-ghost use Rattle.std.specs.Prelude.{◌≡◌, ◌∷◌, ◌++◌, IfOk, OnOk, false, map, length, decimal, codes};
+ghost use Rattle.std.specs.Prelude.{◌≡◌, IfOk, false, map};
 ghost use Rattle.std.specs.Arc.{arc_value};
 ghost use Rattle.serde_json.specs.Data.{object};
 ghost use Rattle.serde_json.specs.View.{view};
 ghost use Rattle.serde_json.specs.Written.{compact_text, has_float};
-ghost use Rattle.field_schema.specs.declared.field.FieldList.TheVariants as FieldList;
-ghost use Rattle.doc_model.specs.ReadDoc.{is_no_memory};
-ghost use Rattle.search_model.specs.Messages.{doc_message};
 ghost use Rattle.search_model.specs.Reply.{docs_items, found_object, header, refused_data};
 
-use doc_model::{Doc, DocFault, doc_json};
+use doc_model::{Doc, doc_json};
 use field_schema::{FieldList, NoMemory, Schema, Text};
 use serde_json::{Value, json};
 use std::alloc::{AllocError, Global};
@@ -56,38 +53,13 @@ pub(crate) fn docs_value(
     alloc: Global,
     schema: &Schema,
     docs: &[Arc<Doc>],
+    fields: &FieldList,
 ) -> Result<Value, NoMemory>
-    ensures { IfOk result (λ v. view v ≡ docs_items schema.now FieldList.All (map arc_value docs.now)) }
+    ensures { IfOk result (λ v. view v ≡ docs_items schema.now fields.now (map arc_value docs.now)) }
 {
     let mut values = Vec::with_capacity(alloc, docs.len())?;
     for doc in docs {
-        values.push(doc_json(alloc, schema, doc, &FieldList::All)?)?;
+        values.push(doc_json(alloc, schema, doc, fields)?)?;
     }
     Ok(Value::Array(values))
-}
-
-// The message of a document's fault, which is not want of memory.
-pub(crate) fn doc_message_text(alloc: Global, fault: &DocFault) -> Result<Text, NoMemory>
-    ensures fault { OnOk result (is_no_memory fault.now ≡ false) }
-    ensures message { IfOk result (λ t. t ≡ doc_message fault.now) }
-{
-    let text = match fault {
-        DocFault::NotObject => String::from_str(alloc, "NotObject")?,
-        DocFault::NoId => String::from_str(alloc, "NoId")?,
-        DocFault::UnknownField { name } => {
-            let name = name.get();
-            format!(in alloc; "UnknownField {name}")?
-        }
-        DocFault::BadValue { field } => {
-            let field = field.get();
-            format!(in alloc; "BadValue {field}")?
-        }
-        DocFault::ManyValues { field } => {
-            let field = field.get();
-            format!(in alloc; "ManyValues {field}")?
-        }
-        DocFault::TooLong { bytes } => format!(in alloc; "TooLong {bytes}")?,
-        DocFault::NoMemory => return Err(NoMemory),
-    };
-    Ok(Text::new(text))
 }

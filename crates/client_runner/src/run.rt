@@ -5,8 +5,9 @@ ghost use Rattle.script_form.specs.Ranges.{HasClient};
 ghost use Rattle.run_laws.specs.Lawful.{Ascends, Lawful};
 ghost use Rattle.client_runner.specs.Histories.{GoesByHistory};
 ghost use Rattle.client_runner.specs.Outputs.{output_view};
-ghost use Rattle.client_runner.specs.Runs.{LeavesRoom, TakesLine};
-ghost use Rattle.client_runner.specs.Standings.{HasRoom, searchers_of, standing};
+ghost use Rattle.client_runner.specs.Rooms.{IsReady, StaysReady};
+ghost use Rattle.client_runner.specs.Runs.{TakesLine};
+ghost use Rattle.client_runner.specs.Standings.{searchers_of, standing};
 
 use crate::order::turns;
 use crate::rows::{Output, RequestRows, SearcherList, Verb};
@@ -26,9 +27,9 @@ impl Runner {
         line: &Line,
     ) -> Result<(), NoMemory>
         requires warming { 0 < config.now.max_warming }
-        requires room { HasRoom 1 (standing self.old) }
+        requires ready { IsReady config.now 1 self.old }
         ensures follows { OnOk result (TakesLine config.now phase line.now (standing self.old) (standing self.new)) }
-        ensures room { OnOk result (LeavesRoom (standing self.old) (standing self.new)) }
+        ensures ready { OnOk result (StaysReady self.old self.new) }
     {
         let (client, verb, body) = match &line.what {
             What::Add { client, body } => (*client, Verb::Add, body),
@@ -90,7 +91,7 @@ pub fn run_script<G: Gate>(
 {
     let _ = gate;
     let turns = turns(alloc, script.get())?;
-    let mut runner = Runner::new(alloc);
+    let mut runner = Runner::new(alloc, config.schema.key_field())?;
     for turn in &turns {
         let line = &script.get()[turn.index as usize];
         runner.step(alloc, config, turn.phase, line)?;

@@ -1,12 +1,17 @@
-ghost use Rattle.std.specs.Prelude.{◌≡◌, IfOk, OnOk, OnErr};
-ghost use Rattle.search_model.specs.Live.{added};
-ghost use Rattle.client_runner.specs.Standings.{HasRoom, acquired, changed, first, opened, shown_row, standing};
+ghost use Rattle.std.specs.Prelude.{◌≡◌, ◌+◌, ◌<◌, ◌≤◌, ◌^◌, IfOk, OnOk, OnErr};
+ghost use Rattle.doc_model.specs.Document.{IsIdAt};
+ghost use Rattle.doc_sets.specs.declared.TheConstants.{MAX_DOCS};
+ghost use Rattle.search_model.specs.Live.{added, after, nothing};
+ghost use Rattle.run_laws.specs.CallReadings.{change_by};
+ghost use Rattle.client_runner.specs.Rooms.{HasPlace, HasRoom, IsFirst, StaysReady};
+ghost use Rattle.client_runner.specs.Standings.{acquired, changed, opened, shown_row, standing};
 ghost use Rattle.client_runner.specs.Views.{request_view};
 
-use crate::index::Index;
 use crate::rows::{RequestRow, SearcherRow, Verb};
 use doc_model::Doc;
-use field_schema::{NoMemory, Text};
+use field_schema::{FieldNo, NoMemory, Text};
+use request_form::DeleteForm;
+use served_index::Index;
 use std::alloc::Global;
 
 // A request as its line names it.
@@ -65,11 +70,11 @@ pub(crate) struct Runner {
 
 impl Runner {
     // Before the first request.
-    pub(crate) fn new(alloc: Global) -> Runner
-        ensures { standing result ≡ first }
+    pub(crate) fn new(alloc: Global, key: FieldNo) -> Result<Runner, NoMemory>
+        ensures { IfOk result (IsFirst key) }
     {
-        Runner {
-            index: Index::new(alloc),
+        Ok(Runner {
+            index: Index::new(alloc, key)?,
             place: 2,
             rows: Vec::new(alloc),
             earlier: Vec::new(alloc),
@@ -81,35 +86,63 @@ impl Runner {
                 acquired: 0,
                 from: None,
             },
-        }
+        })
     }
 
     // Adds a document, at the place that is given. After want of memory all stands as before.
     pub(crate) fn add(&mut self, alloc: Global, doc: Doc) -> Result<u64, NoMemory>
-        requires { HasRoom 1 (standing self.old) }
+        requires place { HasPlace self.old }
+        requires number { self.old.index.numbers < MAX_DOCS }
+        requires key { IsIdAt doc self.old.index.key }
         ensures place { IfOk result (λ place. place ≡ self.old.place) }
         ensures ok { OnOk result (standing self.new ≡ changed (added doc) (standing self.old)) }
+        ensures ready { StaysReady self.old self.new }
         ensures err { OnErr result (standing self.new ≡ standing self.old) }
     {
         self.index.add(alloc, doc)?;
+        Ok(self.take_place())
+    }
+
+    // Takes away what a delete names, at the place that is given. After want of memory all stands as before.
+    pub(crate) fn remove(&mut self, alloc: Global, form: &DeleteForm) -> Result<u64, NoMemory>
+        requires { HasPlace self.old }
+        ensures place { IfOk result (λ place. place ≡ self.old.place) }
+        ensures ok { OnOk result (standing self.new ≡ changed (change_by form.now) (standing self.old)) }
+        ensures ready { StaysReady self.old self.new }
+        ensures err { OnErr result (standing self.new ≡ standing self.old) }
+    {
+        take_away(&mut self.index, alloc, form)?;
+        Ok(self.take_place())
+    }
+
+    // Takes the next place, which is given.
+    pub(crate) fn take_place(&mut self) -> u64
+        requires { HasPlace self.old }
+        ensures place { result ≡ self.old.place }
+        ensures taken { standing self.new ≡ changed nothing (standing self.old) }
+        ensures index { self.new.index ≡ self.old.index }
+        ensures ready { StaysReady self.old self.new }
+    {
         let place = self.place;
         self.place += 1;
-        Ok(place)
+        place
     }
 
     // Opens the next searcher on the documents as they stand, warms it from the current one and registers it; gives the
     // place of the opening. After want of memory all stands as before.
     pub(crate) fn open(&mut self, alloc: Global) -> Result<u64, NoMemory>
-        requires { HasRoom 1 (standing self.old) }
+        requires { HasRoom 1 self.old }
         ensures place { IfOk result (λ place. place ≡ self.old.place) }
         ensures ok { OnOk result (standing self.new ≡ opened (standing self.old)) }
         ensures err { OnErr result (standing self.new ≡ standing self.old) }
+        ensures ready { StaysReady self.old self.new }
     {
         let mut last = self.current;
         let ticket = last.acquired;
         last.acquired += 1;
+        self.earlier.reserve(1)?;
+        self.index.open(alloc)?;
         self.earlier.push(last)?;
-        self.index.open(alloc);
         let place = self.place;
         self.current = SearcherRow {
             generation: last.generation + 1,
@@ -125,12 +158,27 @@ impl Runner {
 
     // Acquires the current searcher, and gives the ticket.
     pub(crate) fn acquire(&mut self) -> u32
-        requires { HasRoom 1 (standing self.old) }
+        requires { self.old.current.acquired + 1 < 2 ^ 32 }
         ensures ticket { result ≡ self.old.current.acquired }
         ensures acquired { standing self.new ≡ acquired (standing self.old) }
+        ensures ready { StaysReady self.old self.new }
     {
         let ticket = self.current.acquired;
         self.current.acquired += 1;
         ticket
+    }
+}
+
+// Takes away what a delete names. After want of memory all stands as before.
+fn take_away(index: &mut Index, alloc: Global, form: &DeleteForm) -> Result<(), NoMemory>
+    ensures ok { OnOk result (index.new.docs ≡ after index.old.docs (change_by form.now)) }
+    ensures err { OnErr result (index.new.docs ≡ index.old.docs) }
+    ensures served { index.new.served ≡ index.old.served }
+    ensures numbers { index.new.numbers ≤ index.old.numbers }
+    ensures key { index.new.key ≡ index.old.key }
+{
+    match form {
+        DeleteForm::Id(id) => index.delete_id(alloc, id.get()),
+        DeleteForm::Query(query) => index.delete_query(alloc, query),
     }
 }

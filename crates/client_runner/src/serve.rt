@@ -1,21 +1,23 @@
-ghost use Rattle.std.specs.Prelude.{◌≡◌, ◌<◌, ◌^◌, IfOk, OnOk, OnErr, length};
-ghost use Rattle.field_schema.specs.declared.key.Key.TheVariants as Key;
-ghost use Rattle.query_tree.specs.declared.query.Query.{Term};
+ghost use Rattle.std.specs.Prelude.{◌≡◌, ◌<◌, IfOk, OnOk, OnErr, false, map};
+ghost use Rattle.request_form.specs.Messages.{request_message};
+ghost use Rattle.request_form.specs.Requests.{is_no_memory};
 ghost use Rattle.search_model.specs.Reply.{accepted, no_memory, refused};
+ghost use Rattle.run_laws.specs.CallReadings.{defaults_of};
 ghost use Rattle.client_runner.specs.declared.rows.Verb.TheVariants as Verb;
-ghost use Rattle.client_runner.specs.Runs.{AnswersBy, Follows, LeavesRoom};
-ghost use Rattle.client_runner.specs.Standings.{HasRoom, Shown, call_of, found_first_ten, standing};
+ghost use Rattle.client_runner.specs.Rooms.{IsReady, StaysReady};
+ghost use Rattle.client_runner.specs.Runs.{AnswersBy, Follows};
+ghost use Rattle.client_runner.specs.Standings.{IsRefusal, Shown, call_of, found_by, standing};
 
-use crate::index::Index;
-use crate::reply::{
-    accepted_value, doc_message_text, docs_value, found_value, refused_value, text_of,
-};
+use crate::messages::{doc_message_text, request_message_text};
+use crate::reply::{accepted_value, docs_value, found_value, refused_value, text_of};
 use crate::rows::{RequestRow, Verb};
 use crate::runner::{Head, Reply, Runner};
-use crate::term_query::query_term;
 use doc_model::Doc;
-use field_schema::{FieldNo, NoMemory};
+use field_schema::NoMemory;
+use query_tree::Query;
+use request_form::{CommitForm, Defaults, DeleteForm, Filter, Request, RequestFault};
 use script_form::Config;
+use served_index::Index;
 use std::alloc::Global;
 
 // The reply to an accepted update or commit.
@@ -60,27 +62,68 @@ fn no_memory_reply(alloc: Global, config: &Config) -> Result<Reply, NoMemory>
     })
 }
 
-// The reply of a query for a word in a field, on what the current searcher sees: the first ten documents that have it.
+// The row of a request that does not read.
+fn refused_row(
+    alloc: Global,
+    config: &Config,
+    head: Head,
+    fault: &RequestFault,
+) -> Result<RequestRow, NoMemory>
+    ensures fault { OnOk result (is_no_memory fault.now ≡ false) }
+    ensures row { IfOk result (IsRefusal config.now head (request_message fault.now)) }
+{
+    let message = request_message_text(alloc, fault)?;
+    let reply = refused_reply(alloc, config, message.get())?;
+    Ok(head.row(None, None, None, reply))
+}
+
+// The queries of filters.
+fn queries(alloc: Global, filters: &[Filter]) -> Result<Vec<&Query>, NoMemory>
+    ensures { IfOk result (λ v. map (λ q. q.now) v.items ≡ map (λ f. f.query) filters.now) }
+{
+    let mut queries = Vec::with_capacity(alloc, filters.len())?;
+    for filter in filters {
+        queries.push(&filter.query)?;
+    }
+    Ok(queries)
+}
+
+// The reply of a request, on what the current searcher sees.
 fn found_reply(
     alloc: Global,
     config: &Config,
     index: &Index,
-    field: FieldNo,
-    word: &str,
+    request: &Request,
 ) -> Result<Reply, NoMemory>
-    requires { length index.now.served < 2 ^ 32 }
-    ensures { IfOk result (Shown config.now (found_first_ten index.now.served (Term field (Key.Str word.now)))) }
+    ensures { IfOk result (Shown config.now (found_by index.now.served request.now)) }
 {
-    let (first, found) = index.first_matches(alloc, field, word, 10)?;
-    let docs = docs_value(alloc, &config.schema, &first)?;
-    let value = found_value(alloc, docs, found as u32, 0)?;
+    let filters = queries(alloc, request.filters.as_slice())?;
+    let (page, found) = index.search(
+        alloc,
+        &request.q,
+        filters.as_slice(),
+        request.start,
+        request.rows,
+    )?;
+    let docs = docs_value(alloc, &config.schema, &page, &request.fields)?;
+    let value = found_value(alloc, docs, found, request.start)?;
     let text = text_of(alloc, &value)?;
     Ok(Reply {
         text,
         code: 0,
-        found: found as u32,
-        docs: first.len() as u32,
+        found,
+        docs: page.len() as u32,
     })
+}
+
+/// What the configuration says of requests that do not say it themselves. It costs nothing.
+pub fn defaults(config: &Config) -> Defaults
+    ensures { result ≡ defaults_of config.now }
+{
+    Defaults {
+        df: config.df,
+        most: config.most_clauses,
+    }
 }
 
 impl Runner {
@@ -94,9 +137,9 @@ impl Runner {
         body: &str,
     ) -> Result<(), NoMemory>
         requires warming { 0 < config.now.max_warming }
-        requires room { HasRoom 1 (standing self.old) }
+        requires ready { IsReady config.now 1 self.old }
         ensures follows { OnOk result (Follows config.now (call_of head body.now) (standing self.old) (standing self.new)) }
-        ensures room { OnOk result (LeavesRoom (standing self.old) (standing self.new)) }
+        ensures ready { OnOk result (StaysReady self.old self.new) }
     {
         self.rows.reserve(1)?;
         let row = match self.answer(alloc, config, head, body) {
@@ -116,10 +159,10 @@ impl Runner {
         body: &str,
     ) -> Result<RequestRow, NoMemory>
         requires warming { 0 < config.now.max_warming }
-        requires room { HasRoom 1 (standing self.old) }
+        requires ready { IsReady config.now 1 self.old }
         ensures ok { IfOk result (AnswersBy config.now (call_of head body.now) (standing self.old) (standing self.new)) }
         ensures err { OnErr result (standing self.new ≡ standing self.old) }
-        ensures room { LeavesRoom (standing self.old) (standing self.new) }
+        ensures ready { StaysReady self.old self.new }
     {
         match head.verb {
             Verb::Add => self.update(alloc, config, head, body),
@@ -138,10 +181,10 @@ impl Runner {
         body: &str,
     ) -> Result<RequestRow, NoMemory>
         requires verb { head.verb ≡ Verb.Add }
-        requires room { HasRoom 1 (standing self.old) }
+        requires ready { IsReady config.now 1 self.old }
         ensures ok { IfOk result (AnswersBy config.now (call_of head body.now) (standing self.old) (standing self.new)) }
         ensures err { OnErr result (standing self.new ≡ standing self.old) }
-        ensures room { LeavesRoom (standing self.old) (standing self.new) }
+        ensures ready { StaysReady self.old self.new }
     {
         match Doc::read(alloc, &config.schema, body) {
             Ok(doc) => {
@@ -157,7 +200,7 @@ impl Runner {
         }
     }
 
-    // Refuses a delete, since none is built.
+    // Takes away what a delete names, or refuses it with its first fault.
     fn delete(
         &mut self,
         alloc: Global,
@@ -165,17 +208,23 @@ impl Runner {
         head: Head,
         body: &str,
     ) -> Result<RequestRow, NoMemory>
-        requires { head.verb ≡ Verb.Delete }
+        requires verb { head.verb ≡ Verb.Delete }
+        requires ready { IsReady config.now 1 self.old }
         ensures ok { IfOk result (AnswersBy config.now (call_of head body.now) (standing self.old) (standing self.new)) }
         ensures err { OnErr result (standing self.new ≡ standing self.old) }
-        ensures room { LeavesRoom (standing self.old) (standing self.new) }
+        ensures ready { StaysReady self.old self.new }
     {
-        let _ = body;
-        let reply = refused_reply(alloc, config, "NotBuilt")?;
-        Ok(head.row(None, None, None, reply))
+        match DeleteForm::read(alloc, &config.schema, &defaults(config), body) {
+            Ok(form) => {
+                let reply = accepted_reply(alloc, config)?;
+                let place = self.remove(alloc, &form)?;
+                Ok(head.row(Some(place), None, None, reply))
+            }
+            Err(fault) => refused_row(alloc, config, head, &fault),
+        }
     }
 
-    // Answers a query on what the current searcher sees.
+    // Answers a query on what the current searcher sees, or refuses it with its first fault.
     fn query(
         &mut self,
         alloc: Global,
@@ -184,22 +233,26 @@ impl Runner {
         body: &str,
     ) -> Result<RequestRow, NoMemory>
         requires verb { head.verb ≡ Verb.Query }
-        requires room { HasRoom 1 (standing self.old) }
+        requires ready { IsReady config.now 1 self.old }
         ensures ok { IfOk result (AnswersBy config.now (call_of head body.now) (standing self.old) (standing self.new)) }
         ensures err { OnErr result (standing self.new ≡ standing self.old) }
-        ensures room { LeavesRoom (standing self.old) (standing self.new) }
+        ensures ready { StaysReady self.old self.new }
     {
-        let Some((field, word)) = query_term(&config.schema, body) else {
+        let request = match Request::read(alloc, &config.schema, &defaults(config), body) {
+            Ok(request) => request,
+            Err(fault) => return refused_row(alloc, config, head, &fault),
+        };
+        if !request.sort.get().is_empty() {
             let reply = refused_reply(alloc, config, "NotBuilt")?;
             return Ok(head.row(None, None, None, reply));
-        };
-        let reply = found_reply(alloc, config, &self.index, field, word)?;
+        }
+        let reply = found_reply(alloc, config, &self.index, &request)?;
         let generation = self.current.generation;
         let ticket = self.acquire();
         Ok(head.row(None, Some(generation), Some(ticket), reply))
     }
 
-    // Opens a searcher for a commit without parameters, or refuses a commit that has some.
+    // Opens a searcher for a commit, or takes a place where it opens none; or refuses it with its first fault.
     fn commit(
         &mut self,
         alloc: Global,
@@ -209,16 +262,20 @@ impl Runner {
     ) -> Result<RequestRow, NoMemory>
         requires verb { head.verb ≡ Verb.Commit }
         requires warming { 0 < config.now.max_warming }
-        requires room { HasRoom 1 (standing self.old) }
+        requires ready { IsReady config.now 1 self.old }
         ensures ok { IfOk result (AnswersBy config.now (call_of head body.now) (standing self.old) (standing self.new)) }
         ensures err { OnErr result (standing self.new ≡ standing self.old) }
-        ensures room { LeavesRoom (standing self.old) (standing self.new) }
+        ensures ready { StaysReady self.old self.new }
     {
-        if !body.is_empty() {
-            let reply = refused_reply(alloc, config, "NotBuilt")?;
-            return Ok(head.row(None, None, None, reply));
-        }
+        let form = match CommitForm::read(alloc, body) {
+            Ok(form) => form,
+            Err(fault) => return refused_row(alloc, config, head, &fault),
+        };
         let reply = accepted_reply(alloc, config)?;
+        if !form.opens {
+            let place = self.take_place();
+            return Ok(head.row(Some(place), None, None, reply));
+        }
         let generation = self.current.generation + 1;
         let place = self.open(alloc)?;
         Ok(head.row(Some(place), Some(generation), None, reply))

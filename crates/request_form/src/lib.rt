@@ -21,6 +21,7 @@ mod value;
 pub use commit::CommitForm;
 pub use delete::DeleteForm;
 pub use fault::RequestFault;
+pub use params::has_param;
 pub use request::{Defaults, Filter, Filters, Request};
 
 #[cfg(test)]

@@ -16,7 +16,8 @@ use Rattle.registry_machine.proofs.Ranks.{rank_rises_over}
 use Rattle.registry_machine.proofs.Indices.{acquired_in_order, tickets_in_order}
 use Rattle.run_laws.specs.Rows.{Verb, add, delete, query, commit, RequestRow, Output}
 use Rattle.run_laws.specs.Calls.{Told}
-use Rattle.run_laws.specs.CallReadings.{CommitForm, update_of, commit_of, query_of}
+use Rattle.request_form.specs.declared.commit.CommitForm.{CommitForm}
+use Rattle.run_laws.specs.CallReadings.{update_of, commit_of, query_of}
 use Rattle.run_laws.specs.Places.{place_count, warming, view_of}
 use Rattle.run_laws.specs.Bounds.{low, high}
 use Rattle.run_laws.specs.Acquires.{pin_of, pins, IsBehind}

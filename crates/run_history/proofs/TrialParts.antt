@@ -4,7 +4,7 @@ use Rattle.std.proofs.lemmas.Option.{same_Some}
 use Rattle.std.specs.List.{AllByRecursion}
 use Rattle.serde_json.proofs.OnLiterals.{serde_json_on_literals}
 use Rattle.doc_model.specs.Document.{Document}
-use Rattle.search_model.specs.TermQuery.{asked_of}
+use Rattle.run_laws.proofs.OnLiterals.{requests_on_literals}
 use Rattle.search_model.specs.Live.{Change, added}
 use Rattle.registry_machine.specs.declared.entry.Entry.TheVariants.{Open}
 use Rattle.run_laws.specs.Rows.{add, query}
@@ -21,7 +21,7 @@ unfolding serde_json_on_literals
 adds_a line = refl
 
 pub asks_x : (line : ℕ) → wants one_warming (call line query find_x) ≡ Ok (an_answer asked_x)
-unfolding serde_json_on_literals asked_of
+unfolding serde_json_on_literals requests_on_literals
 asks_x line = refl
 
 pub same_docs : (a b : ℕ) (v u : ℕ × Change) (x g y s : ℕ) (c d : List Document) → ◌≡◌ {A = Step} (Open a v x y c) (Open b u g s d) → d ≡ c

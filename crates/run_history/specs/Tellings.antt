@@ -2,6 +2,7 @@
 use Rattle.std.specs.Prelude.{◌≡◌, ◌⊎◌, ℕ, List, Bool, false, ◌==◌, if◌then◌else◌, Option, Some, None, Result, Ok}
 use Rattle.std.specs.Result.{result_map_both}
 use Rattle.doc_model.specs.Document.{Document}
+use Rattle.request_form.specs.declared.commit.CommitForm.{CommitForm}
 use Rattle.search_model.specs.Live.{Change, nothing}
 use Rattle.search_model.specs.Answer.{Asked}
 use Rattle.script_form.specs.declared.config.Config.{Config}
@@ -9,7 +10,7 @@ use Rattle.registry_machine.specs.declared.entry.Entry.{Entry}
 use Rattle.registry_machine.specs.declared.entry.Entry.TheVariants.{Open, TooMany, Update, Acquire}
 use Rattle.run_laws.specs.Rows.{Verb, add, delete, query, commit, RequestRow, SearcherRow}
 use Rattle.run_laws.specs.Calls.{Call, Told}
-use Rattle.run_laws.specs.CallReadings.{CommitForm, update_of, commit_of, query_of}
+use Rattle.run_laws.specs.CallReadings.{update_of, commit_of, query_of}
 
 -- what is read off a history's contents, which are a line and a change, and off the documents that an opening shows
 pub record Reading (U D : Type 0) : Type 0 where

@@ -8,7 +8,7 @@ use Rattle.std.specs.Prelude.{slice_index}
 use Rattle.serde_json.proofs.OnLiterals.{serde_json_on_literals}
 use Rattle.search_model.specs.Answer.{answer}
 use Rattle.search_model.specs.Reply.{accepted, too_many, no_memory, found, reply_text}
-use Rattle.search_model.specs.TermQuery.{asked_of}
+use Rattle.run_laws.proofs.OnLiterals.{requests_on_literals}
 use Rattle.run_laws.specs.Rows.{add, query, commit, RequestRow}
 use Rattle.run_laws.specs.Places.{view_of, warming}
 use Rattle.run_laws.specs.Lawful.{Shows}
@@ -371,7 +371,7 @@ one_is_found g e s =
     omega (arith, none)
 
 reply_of_another_view_breaks : Keeps one_warming add_commit_query reply_of_another_view answers → ⊥
-unfolding asked_of
+unfolding requests_on_literals
 reply_of_another_view_breaks h = elim h.1.1.0 [
   | inl w ↦ elim w.2.shown [ inl s ↦ one_is_found w.0 w.2.generation s | inr s ↦ (let code : ◌≡◌ {A = ℕ} 0 500 = s.code in omega (arith, code)) ]
   | inr w ↦ (let code : ◌≡◌ {A = ℕ} 0 500 = w.1.code in omega (arith, code))
@@ -408,7 +408,7 @@ a_is_found g e s =
     replies_differ (shown.reply ∙ ap (λ a. reply_text two_fields (found asked_x a)) one_answer)
 
 another_document_breaks : Keeps one_warming add_commit_query another_document answers → ⊥
-unfolding asked_of
+unfolding requests_on_literals
 another_document_breaks h = elim h.1.1.0 [
   | inl w ↦ elim w.2.shown [ inl s ↦ a_is_found w.0 w.2.generation s | inr s ↦ (let code : ◌≡◌ {A = ℕ} 0 500 = s.code in omega (arith, code)) ]
   | inr w ↦ (let code : ◌≡◌ {A = ℕ} 0 500 = w.1.code in omega (arith, code))
@@ -428,6 +428,7 @@ served_from_before_others ticket_order differs = search rules
 served_from_before_others warmings differs = (refl, ((refl, (3, omega arith, omega arith, refl)), tt))
 
 served_from_before_breaks : Keeps one_warming add_commit_query served_from_before answers → ⊥
+unfolding requests_on_literals
 served_from_before_breaks h = grind (arith, common_steps)
 
 pub served_from_before_alone : BreaksAlone one_warming add_commit_query served_from_before answers
@@ -530,7 +531,7 @@ pub served_from_after_alone : BreaksAlone one_warming query_then_commit served_f
 served_from_after_alone = record { breaks = served_from_after_breaks; keeps_others = served_from_after_others }
 
 ticket_past_acquired_others : (other : Law) → other ≢ tickets → Keeps one_warming one_query ticket_past_acquired other
-unfolding asked_of
+unfolding requests_on_literals
 ticket_past_acquired_others one_row_each differs = record { rows = refl; numbers = (tells_served 1 1 0 [], tt); generations = refl }
 ticket_past_acquired_others one_history differs = search rules
 ticket_past_acquired_others orders differs = search rules

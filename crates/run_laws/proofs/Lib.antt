@@ -1,3 +1,4 @@
+pub mod OnLiterals
 pub mod Worked
 pub mod Alone
 pub mod Written

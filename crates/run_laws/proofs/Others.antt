@@ -2,7 +2,7 @@
 use Rattle.std.proofs.Common.{◌≡◌, [], ◌∷◌, Some, None, refl, inl, inr, arith, rules}
 use Rattle.std.specs.Fmt.{digits}
 use Rattle.serde_json.proofs.OnLiterals.{serde_json_on_literals}
-use Rattle.search_model.specs.TermQuery.{asked_of}
+use Rattle.run_laws.proofs.OnLiterals.{requests_on_literals}
 use Rattle.search_model.specs.Reply.{accepted, too_many, no_memory}
 use Rattle.run_laws.specs.Rows.{add, query, commit}
 use Rattle.run_laws.specs.Lawful.{Lawful}
@@ -72,7 +72,7 @@ memory_is_lawful = lawful_by one_warming one_add add_without_memory memory_keeps
 
 -- the query had acquired the first searcher
 query_memory_keeps : (law : Law) → Keeps one_warming one_query query_without_memory law
-unfolding asked_of
+unfolding requests_on_literals
 query_memory_keeps one_row_each = record { rows = refl; numbers = (tells 1 1 query None (Some 1) (Some 0) no_memory, tt); generations = refl }
 query_memory_keeps one_history = search rules
 query_memory_keeps orders = search rules

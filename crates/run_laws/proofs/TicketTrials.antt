@@ -3,7 +3,7 @@ use Rattle.std.proofs.Common.{◌≢◌, [], Some, None, refl, inl, arith, rules
 use Rattle.std.proofs.lemmas.Grind.{common_steps}
 use Rattle.serde_json.proofs.OnLiterals.{serde_json_on_literals}
 use Rattle.search_model.specs.Answer.{answer}
-use Rattle.search_model.specs.TermQuery.{asked_of}
+use Rattle.run_laws.proofs.OnLiterals.{requests_on_literals}
 use Rattle.search_model.specs.Reply.{accepted, found}
 use Rattle.run_laws.specs.Rows.{query, commit}
 use Rattle.run_laws.specs.Trials.{Law, one_row_each, one_history, orders, answers, greatest_serves, tickets, ticket_order, warmings, Keeps, BreaksAlone, one_warming, asked_x, query_then_commit, queries_in_phases, crossing, phases_descend, tickets_cross, warming_crosses}
@@ -27,7 +27,7 @@ phases_descend_alone = record { breaks = phases_descend_breaks; keeps_others = p
 
 -- a query of the first searcher is answered where that was current at a place between its neighbours
 tickets_cross_answered : Keeps one_warming crossing tickets_cross answers
-unfolding serde_json_on_literals asked_of
+unfolding serde_json_on_literals requests_on_literals
 tickets_cross_answered = (
   add_answered 0 1 1 3,
   (
@@ -40,7 +40,7 @@ tickets_cross_answered = (
 )
 
 warming_ticket_answered : Keeps one_warming query_then_commit warming_crosses answers
-unfolding serde_json_on_literals asked_of
+unfolding serde_json_on_literals requests_on_literals
 warming_ticket_answered = (
   inl (1, 1, record { place = refl; generation = refl; ticket = refl; current = (1, omega arith, omega arith, refl); rising = tt; shown = inl (shows 1 1 query None (Some 1) (Some 1) (found asked_x (answer [] asked_x))) }),
   (inl (inl (2, 2, record { place = refl; generation = refl; ticket = refl; opened = refl; room = omega arith; shown = shows 1 2 commit (Some 2) (Some 2) None accepted })), tt),
@@ -57,6 +57,7 @@ tickets_cross_others ticket_order differs = absurd (differs refl)
 tickets_cross_others warmings differs = search rules
 
 tickets_cross_breaks : Keeps one_warming crossing tickets_cross ticket_order → ⊥
+unfolding requests_on_literals
 tickets_cross_breaks h = grind (arith, common_steps)
 
 pub tickets_cross_alone : BreaksAlone one_warming crossing tickets_cross ticket_order

@@ -8,7 +8,7 @@ use Rattle.query_tree.specs.Matches.{top}
 use Rattle.query_tree.proofs.Matching.{top_Term}
 use Rattle.search_model.specs.Reply.{Outcome, found, accepted, found_of}
 use Rattle.search_model.specs.Answer.{Answer, answer}
-use Rattle.search_model.specs.TermQuery.{asked_of}
+use Rattle.run_laws.proofs.OnLiterals.{requests_on_literals}
 use Rattle.script_form.specs.declared.config.Config.{Config}
 use Rattle.script_form.specs.declared.script.Line.{Line}
 use Rattle.run_laws.specs.Rows.{Verb, add, query, commit, Output}
@@ -54,7 +54,7 @@ module _ (acquired acquired_then : ℕ) (from : Option (ℕ × ℕ)) (ticket : �
 
   -- the second searcher sees the document, and is current at place 4
   pub found_answers : Keeps one_warming add_commit_query (found_once acquired acquired_then from ticket) answers
-  unfolding serde_json_on_literals asked_of
+  unfolding serde_json_on_literals requests_on_literals
   found_answers = (
     add_answered 0 1 1 2,
     (

@@ -3,9 +3,10 @@ use Rattle.std.specs.Prelude.{ℕ, List, [], ◌++◌, Bool, true, false, ◌||�
 use Rattle.std.specs.List.{flat_map, filter_map}
 use Rattle.std.specs.Option.{option_to_list, option_and_then}
 use Rattle.std.specs.Result.{result_ok}
+use Rattle.request_form.specs.declared.commit.CommitForm.{CommitForm}
 use Rattle.run_laws.specs.Rows.{Verb, query, commit, SearcherRow}
 use Rattle.run_laws.specs.Calls.{Told}
-use Rattle.run_laws.specs.CallReadings.{commit_of, CommitForm}
+use Rattle.run_laws.specs.CallReadings.{commit_of}
 use Rattle.run_laws.specs.Places.{ended_of}
 
 abbrev pub is_commit : Verb → Bool
@@ -30,7 +31,7 @@ waits t = is_waiting (result_ok (commit_of t.call.body))
   where
     is_waiting : Option CommitForm → Bool
     is_waiting None = false
-    is_waiting (Some form) = form.waits
+    is_waiting (Some form) = form.wait
 
 -- the places that an earlier request sets below a later one's: its own, and its searcher's end where that was waited for
 abbrev pub sets_below : List SearcherRow → Told → Told → List ℕ

@@ -1,34 +1,72 @@
 -- What the bodies of requests read to, or the message of their refusal.
-use Rattle.std.specs.Prelude.{ℕ, List, [], Bool, true, Result, Ok, Err, codes}
-use Rattle.std.specs.Option.{option_map_or}
+use Rattle.std.specs.Prelude.{ℕ, List, [], ◌∷◌, map, Result, Ok, Err, codes}
 use Rattle.std.specs.Result.{result_map_both}
 use Rattle.doc_model.specs.ReadDoc.{doc_of}
-use Rattle.search_model.specs.Live.{Change, added}
+use Rattle.query_tree.specs.declared.sort.SortKey.{SortKey}
+use Rattle.request_form.specs.declared.commit.CommitForm.{CommitForm}
+use Rattle.request_form.specs.declared.delete.DeleteForm.{DeleteForm}
+use Rattle.request_form.specs.declared.delete.DeleteForm.TheVariants as delete_form
+use Rattle.request_form.specs.declared.fault.RequestFault.{RequestFault}
+use Rattle.request_form.specs.declared.request.Defaults.{Defaults}
+use Rattle.request_form.specs.declared.request.Request.{Request}
+use Rattle.request_form.specs.Commits as commits
+use Rattle.request_form.specs.Deletes.{delete_of}
+use Rattle.request_form.specs.Messages.{request_message}
+use Rattle.request_form.specs.Params.{params_of}
+use Rattle.request_form.specs.Requests.{request_of}
+use Rattle.search_model.specs.Live.{Change, added, deleted_id, deleted_query}
 use Rattle.search_model.specs.Answer.{Asked}
 use Rattle.search_model.specs.Messages.{doc_message}
 use Rattle.script_form.specs.declared.config.Config.{Config}
-use Rattle.search_model.specs.TermQuery.{asked_of}
-use Rattle.run_laws.specs.Rows.{Verb, add}
+use Rattle.run_laws.specs.Rows.{Verb, add, delete}
 use Rattle.run_laws.specs.Calls.{Call}
 
--- an add's document; no delete is in the forms yet
+-- what the configuration says of requests that do not say it themselves
+abbrev pub defaults_of : Config → Defaults
+defaults_of c = record { df = c.df; most = c.most_clauses }
+
+-- what a delete takes away
+abbrev pub change_by : DeleteForm → Change
+change_by (delete_form.Id id) = deleted_id id
+change_by (delete_form.Query query) = deleted_query query
+
+-- an add's document, and what a delete's parameters take away
 abbrev pub update_of : Config → Call → Result Change (List ℕ)
 update_of c call = by_verb call.verb
   where
     by_verb : Verb → Result Change (List ℕ)
     by_verb add = result_map_both added doc_message (doc_of c.schema call.body)
-    by_verb _ = Err (codes "NotBuilt")
+    by_verb delete = result_map_both change_by request_message (delete_of c.schema.list (defaults_of c) (params_of call.body))
+    by_verb _ = Err []
 
--- whether a commit opens a searcher, and whether its client waits for it
-pub record CommitForm : Type 0 where
-  pub opens : Bool
-  pub waits : Bool
+-- what a commit's parameters read to, or the message of their first fault
+abbrev pub commit_told : Result CommitForm RequestFault → Result CommitForm (List ℕ)
+commit_told read = result_map_both (λ form. form) request_message read
 
--- a commit without parameters opens a searcher and waits for it; no parameter is in the forms yet
+-- whether a commit opens a searcher, and whether its client waits for it; it may have no parameters
 abbrev pub commit_of : List ℕ → Result CommitForm (List ℕ)
-commit_of [] = Ok (record { opens = true; waits = true })
-commit_of _ = Err (codes "NotBuilt")
+commit_of [] = commit_told (commits.commit_of [])
+commit_of body = commit_told (commits.commit_of (params_of body))
+
+-- what a request asks for, in the order of the index
+abbrev pub asked_by : Request → Asked
+asked_by r = record {
+  query = r.q;
+  filters = map (λ f. f.query) r.filters;
+  start = r.start;
+  rows = r.rows;
+  fields = r.fields;
+}
+
+-- the request in the order of its sort; none is built so far but that of the index
+abbrev pub in_order : Request → List SortKey → Result Asked (List ℕ)
+in_order r [] = Ok (asked_by r)
+in_order r (key ∷ keys) = Err (codes "NotBuilt")
+
+abbrev pub answerable : Result Request RequestFault → Result Asked (List ℕ)
+answerable (Ok r) = in_order r r.sort
+answerable (Err fault) = Err (request_message fault)
 
 -- what a query asks for
 abbrev pub query_of : Config → List ℕ → Result Asked (List ℕ)
-query_of c body = option_map_or Ok (asked_of c.schema body) (Err (codes "NotBuilt"))
+query_of c body = answerable (request_of c.schema.list (defaults_of c) (params_of body))

@@ -1,13 +1,14 @@
 -- When the rows of an output are lawful for a configuration and a script.
 use Rattle.std.specs.Prelude.{◌≡◌, ◌⊎◌, ℕ, ◌-◌, ◌<◌, ◌≤◌, List, [], ◌∷◌, ◌++◌, length, map, drop, count_by, Bool, true, false, ◌&&◌, ◌==◌, nat_le, if◌then◌else◌, Option, Some, None, IsSome, IfSome, Result, Ok, Err}
 use Rattle.std.specs.List.{filter_map, AllByRecursion, range_with_len}
+use Rattle.request_form.specs.declared.commit.CommitForm.{CommitForm}
 use Rattle.search_model.specs.Answer.{Asked, answer}
 use Rattle.search_model.specs.Reply.{Outcome, found, accepted, refused, too_many, no_memory, reply_text, code_of, found_of, docs_of}
 use Rattle.script_form.specs.declared.config.Config.{Config}
 use Rattle.script_form.specs.declared.script.Line.{Line}
 use Rattle.run_laws.specs.Rows.{Verb, add, delete, query, commit, RequestRow, SearcherRow, Output}
 use Rattle.run_laws.specs.Calls.{Call, Told, calls_of, tell, Each}
-use Rattle.run_laws.specs.CallReadings.{update_of, commit_of, query_of, CommitForm}
+use Rattle.run_laws.specs.CallReadings.{update_of, commit_of, query_of}
 use Rattle.run_laws.specs.Places.{is_some_of, places, place_count, opened_of, current_at, warming, view_of}
 use Rattle.run_laws.specs.Bounds.{is_commit, low, high}
 pub use Rattle.run_laws.specs.Acquires.{pin_of, pins, IsBehind}

@@ -2,13 +2,13 @@
 use Rattle.std.specs.Prelude.{◌≢◌, ℕ, List, [], ◌∷◌, ◌++◌, Bool, true, false, Option, Some, None, codes}
 use Rattle.std.specs.List.{AllByRecursion}
 use Rattle.field_schema.specs.Schema.{Fields, string_field}
+use Rattle.field_schema.specs.declared.field.FieldList.TheVariants as fields
 use Rattle.field_schema.specs.declared.key.Key.TheVariants as key
 use Rattle.doc_model.specs.Document.{Document}
 use Rattle.query_tree.specs.declared.query.Query.{Term}
 use Rattle.search_model.specs.Answer.{Asked, answer}
 use Rattle.search_model.specs.Reply.{Outcome, found, accepted, too_many, no_memory, reply_text, code_of, found_of, docs_of}
 use Rattle.script_form.specs.ReadConfig.{no_warming}
-use Rattle.search_model.specs.TermQuery.{first_ten}
 use Rattle.script_form.specs.declared.config.Config.{Config}
 use Rattle.script_form.specs.declared.script.Line.{Line}
 use Rattle.script_form.specs.declared.script.What.{What}
@@ -90,7 +90,7 @@ document_a = record { values = (key.Str (codes "a") ∷ []) ∷ (key.Str (codes 
 
 -- what the body of the query asks for
 abbrev pub asked_x : Asked
-asked_x = first_ten (Term 1 (key.Str (codes "x")))
+asked_x = record { query = Term 1 (key.Str (codes "x")); filters = []; start = 0; rows = 10; fields = fields.All }
 
 abbrev pub line : ℕ → What → Line
 line number request = record { number = number; what = request }

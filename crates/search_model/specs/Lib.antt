@@ -2,4 +2,3 @@ pub mod Live
 pub mod Answer
 pub mod Reply
 pub mod Messages
-pub mod TermQuery

@@ -4,7 +4,6 @@ use Rattle.std.proofs.lemmas.Bool.Decides.{nat_tests}
 use Rattle.std.specs.Option.{option_map_or}
 use Rattle.std.specs.List.{AllByRecursion, range_with_len}
 use Rattle.run_laws.specs.Lawful.{Ascends}
-use Rattle.field_schema.specs.Schema.{Fields}
 use Rattle.script_form.specs.declared.config.Config.{Config}
 use Rattle.script_form.specs.declared.script.Line.{Line}
 use Rattle.script_form.specs.declared.script.LineFault.{LineFault}
@@ -61,16 +60,16 @@ some_warming input c h = (config_is input c h).max_warming.0
 -- ---- the script
 
 -- what is built is what the script reads to
-pub built_is_read : (s : Fields) (ls : List (List ℕ)) (script : List Line) → built_script s ls ≡ Ok script → script_of most_clients ls ≡ Ok script
-built_is_read s ls script h = by_line (first_unbuilt s (front_of most_clients ls).lines) h
+pub built_is_read : (c : Config) (ls : List (List ℕ)) (script : List Line) → built_script c ls ≡ Ok script → script_of most_clients ls ≡ Ok script
+built_is_read c ls script h = by_line (first_unbuilt c (front_of most_clients ls).lines) h
   where
     by_line : (n : Option ℕ) → option_map_or (λ k. Err (line_failed k NotBuilt)) n (script_of most_clients ls) ≡ Ok script → script_of most_clients ls ≡ Ok script
     by_line None e = e
     by_line (Some k) e = absurd (cc)
 
 -- its lines are numbered from 1, their clients are those that there are, and there are no more of them than of the text
-pub built_is_script : (s : Fields) (ls : List (List ℕ)) (script : List Line) → built_script s ls ≡ Ok script → IsScript most_clients script × (length script ≡ length ls)
-built_is_script s ls script h = script_is most_clients ls script (built_is_read s ls script h)
+pub built_is_script : (c : Config) (ls : List (List ℕ)) (script : List Line) → built_script c ls ≡ Ok script → IsScript most_clients script × (length script ≡ length ls)
+built_is_script c ls script h = script_is most_clients ls script (built_is_read c ls script h)
 
 above : (m k n : ℕ) → k < n → AllByRecursion (λ q. k < q) (range_with_len n m)
 above zero k n h = tt

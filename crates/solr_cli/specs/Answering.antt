@@ -20,7 +20,7 @@ use Rattle.solr_cli.specs.declared.status.Status.TheVariants as status
 pub record ReadsTo (input : List ℕ) (c : Config) (ls : List Line) : Type 0 where
   pub within : too_large input ≡ false
   pub config : config_of input ≡ Ok c
-  pub script : built_script c.schema (script_lines input) ≡ Ok ls
+  pub script : built_script c (script_lines input) ≡ Ok ls
 
 -- the first check of the configuration that fails
 pub record IsBadConfig (input : List ℕ) (fault : ConfigFault) : Type 0 where
@@ -31,7 +31,7 @@ pub record IsBadConfig (input : List ℕ) (fault : ConfigFault) : Type 0 where
 pub record IsBadLine (input : List ℕ) (c : Config) (fault : LineFault) : Type 0 where
   pub within : too_large input ≡ false
   pub config : config_of input ≡ Ok c
-  pub script : built_script c.schema (script_lines input) ≡ Err (script_refusal.Fault fault)
+  pub script : built_script c (script_lines input) ≡ Err (script_refusal.Fault fault)
 
 -- why an input is refused: each status has its cause in the bytes, and want of memory is free
 abbrev pub IsRefusal : List ℕ → Status → Type 0

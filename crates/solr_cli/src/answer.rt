@@ -27,7 +27,7 @@ fn read_input(alloc: Global, bytes: &[u8]) -> Result<(Config, Script), Status>
         }
         Err(ConfigRefusal::NoMemory) => return Err(Status::NoMemory),
     };
-    match read_built(alloc, &config.schema, &bytes[begin..]) {
+    match read_built(alloc, &config, &bytes[begin..]) {
         Ok(script) => Ok((config, script)),
         Err(ScriptRefusal::Fault(fault)) => Err(Status::BadLine {
             line: fault.line,

@@ -90,7 +90,7 @@ fn check(
 }
 
 // Configurations with scripts, and what they write.
-const RUNS: [(&str, &str, &str); 6] = [
+const RUNS: [(&str, &str, &str); 8] = [
     (TWO_FIELDS, FOUND, FOUND_LINES),
     (
         FOUR_TYPES,
@@ -146,6 +146,33 @@ const RUNS: [(&str, &str, &str); 6] = [
 {\"acquired\":1,\"finished\":8,\"from\":2,\"fromTicket\":3,\"generation\":3,\"opened\":7}
 ",
     ),
+    (
+        FOUR_TYPES,
+        "1 add {\"id\":\"a\"}\n1 commit openSearcher=false\n1 query q=*:*\n",
+        "{\"client\":1,\"line\":1,\"place\":2,\"reply\":{\"responseHeader\":{\"status\":0}}}
+{\"client\":1,\"line\":2,\"place\":3,\"reply\":{\"responseHeader\":{\"status\":0}}}
+{\"client\":1,\"generation\":1,\"line\":3,\"reply\":{\"response\":{\"docs\":[],\"numFound\":0,\"numFoundExact\":true,\"start\":0},\"responseHeader\":{\"status\":0}},\"ticket\":0}
+{\"acquired\":1,\"finished\":1,\"generation\":1,\"opened\":0}
+",
+    ),
+    (
+        FOUR_TYPES,
+        "1 add {\"id\":\"a\",\"cat\":\"x\"}\n1 add {\"id\":\"b\"}\n1 add {\"id\":\"a\",\"cat\":\"y\"}\n1 commit\n1 delete id=a\n1 add {\"id\":\"c\",\"cat\":\"z\"}\n1 delete query=cat:z\n1 query q=*:*\n1 commit\n1 query q=*:*\n",
+        "{\"client\":1,\"line\":1,\"place\":2,\"reply\":{\"responseHeader\":{\"status\":0}}}
+{\"client\":1,\"line\":2,\"place\":3,\"reply\":{\"responseHeader\":{\"status\":0}}}
+{\"client\":1,\"line\":3,\"place\":4,\"reply\":{\"responseHeader\":{\"status\":0}}}
+{\"client\":1,\"generation\":2,\"line\":4,\"place\":5,\"reply\":{\"responseHeader\":{\"status\":0}}}
+{\"client\":1,\"line\":5,\"place\":7,\"reply\":{\"responseHeader\":{\"status\":0}}}
+{\"client\":1,\"line\":6,\"place\":8,\"reply\":{\"responseHeader\":{\"status\":0}}}
+{\"client\":1,\"line\":7,\"place\":9,\"reply\":{\"responseHeader\":{\"status\":0}}}
+{\"client\":1,\"generation\":2,\"line\":8,\"reply\":{\"response\":{\"docs\":[{\"id\":\"b\"},{\"cat\":\"y\",\"id\":\"a\"}],\"numFound\":2,\"numFoundExact\":true,\"start\":0},\"responseHeader\":{\"status\":0}},\"ticket\":0}
+{\"client\":1,\"generation\":3,\"line\":9,\"place\":10,\"reply\":{\"responseHeader\":{\"status\":0}}}
+{\"client\":1,\"generation\":3,\"line\":10,\"reply\":{\"response\":{\"docs\":[{\"id\":\"b\"}],\"numFound\":1,\"numFoundExact\":true,\"start\":0},\"responseHeader\":{\"status\":0}},\"ticket\":0}
+{\"acquired\":1,\"finished\":1,\"generation\":1,\"opened\":0}
+{\"acquired\":2,\"finished\":6,\"from\":1,\"fromTicket\":0,\"generation\":2,\"opened\":5}
+{\"acquired\":1,\"finished\":11,\"from\":2,\"fromTicket\":1,\"generation\":3,\"opened\":10}
+",
+    ),
 ];
 
 // Configurations with scripts that are refused, the exit code and the line on standard error.
@@ -164,23 +191,138 @@ const REFUSED: [(&str, &str, u8, &str); 10] = [
     (FOUR_TYPES, "1 add\n", 6, "bad line 1: BadBody\n"),
     (
         TWO_FIELDS,
-        "1 commit\n1 delete id=a\n1 add\n",
+        "1 commit\n1 query q=cat:x&fl=id\n1 add\n",
         6,
         "bad line 2: NotBuilt\n",
     ),
     (
         FOUR_TYPES,
-        "1 query q=cat:x\n1 query q=price:5\n",
+        "1 query q=cat:x&sort=\n1 query q=*:*&sort=price+asc\n",
         6,
         "bad line 2: NotBuilt\n",
     ),
     (
         FOUR_TYPES,
-        "1 add\n1 commit openSearcher=false\n",
+        "1 add\n1 query q=*:*&fl=\n",
         6,
         "bad line 1: BadBody\n",
     ),
 ];
+
+// The adds of four documents, and the documents as replies show them.
+const CATALOGUE: &str = "1 add {\"id\":\"a\",\"cat\":\"x\",\"price\":5,\"t\":\"Red apple pie\"}
+1 add {\"id\":\"b\",\"cat\":\"y\",\"price\":7,\"t\":\"green apple\"}
+1 add {\"id\":\"c\",\"cat\":\"x\",\"price\":9}
+1 add {\"id\":\"d\",\"price\":\"5\",\"t\":\"apple, red\"}
+1 commit
+";
+
+const A: &str = "{\"cat\":\"x\",\"id\":\"a\",\"price\":5,\"t\":\"Red apple pie\"}";
+
+const B: &str = "{\"cat\":\"y\",\"id\":\"b\",\"price\":7,\"t\":\"green apple\"}";
+
+const C: &str = "{\"cat\":\"x\",\"id\":\"c\",\"price\":9}";
+
+const D: &str = "{\"id\":\"d\",\"price\":5,\"t\":\"apple, red\"}";
+
+// Queries over the catalogue, and the documents that they find in their order.
+const FINDS: [(&str, &[&str]); 22] = [
+    ("q=-cat:x", &[B, D]),
+    ("q=cat:y+OR+(-cat:x)", &[B]),
+    ("q=(-cat:x)", &[B, D]),
+    ("q=price:[*+TO+5}", &[]),
+    ("q=price:{5+TO+5]", &[]),
+    ("q=price:[5+TO+7}", &[A, D]),
+    ("q=price:[-9223372036854775808+TO+*]", &[A, B, C, D]),
+    ("q=\"red+apple\"", &[A]),
+    ("q=red-apple", &[A, B, D]),
+    ("q=red-apple&q.op=AND", &[A, D]),
+    ("q=app*", &[A, B, D]),
+    ("q=t:(red+-pie)", &[D]),
+    ("q=t:*", &[A, B, D]),
+    ("q=", &[]),
+    ("rows=3", &[]),
+    ("q=*:*&fq=cat:x&fq=price:5", &[A]),
+    ("q=*:*&fq=cat:x&fq=cat:y", &[]),
+    ("q=*:*&fq=", &[]),
+    ("q=x&df=cat", &[A, C]),
+    ("q=cat%3Ax&q=cat:y", &[A, C]),
+    ("q=%2Bcat:x+-price:9", &[A]),
+    ("q={!cache=false}*:*", &[A, B, C, D]),
+];
+
+// Requests that do not read, and their messages.
+const MESSAGES: [(&str, &str); 14] = [
+    ("query q=(cat:x", "q: Syntax at 6"),
+    ("query q=nope:1", "q: UnknownField at 0"),
+    ("query q=price:x", "q: BadNumber at 6"),
+    ("query q=*:*&fq=app~", "fq 1: Unsupported at 3"),
+    ("query q=*:*&fq=cat:x&fq=(", "fq 2: Syntax at 1"),
+    ("query q=*:*&rows=-1", "BadCount rows"),
+    ("query q=*:*&start=00000000001", "BadCount start"),
+    ("query q=*:*&q.op=and+", "BadFlag q.op"),
+    ("query q=*:*&sort=t+asc", "sort: NotSortable at 0"),
+    ("query q=*:*&sort=price", "sort: BadSort at 5"),
+    ("commit openSearcher=maybe", "BadFlag openSearcher"),
+    ("commit waitSearcher=TRUE", "BadFlag waitSearcher"),
+    ("delete x=1", "BadFlag id"),
+    ("delete query=price:x&df=cat", "query: BadNumber at 6"),
+];
+
+// Adds the line of a reply with these documents.
+fn add_found(
+    alloc: Global,
+    want: &mut String,
+    line: usize,
+    ticket: usize,
+    docs: &[&str],
+) -> Result<(), Fail> {
+    let mut list = String::new(alloc);
+    for doc in docs {
+        if list.len() > 0 {
+            list.push_str(",")?;
+        }
+        list.push_str(doc)?;
+    }
+    let list = list.as_str();
+    let found = docs.len();
+    want.push_str(format!(in alloc;
+        "{{\"client\":1,\"generation\":2,\"line\":{line},\"reply\":{{\"response\":{{\"docs\":[{list}],\"numFound\":{found},\"numFoundExact\":true,\"start\":0}},\"responseHeader\":{{\"status\":0}}}},\"ticket\":{ticket}}}\n"
+    )?.as_str())?;
+    Ok(())
+}
+
+#[test]
+fn requests_are_answered(rt: HostRuntime) -> Result<(), Fail> {
+    let alloc = rt.alloc();
+    let mut input = format!(in alloc; "{FOUR_TYPES}{CATALOGUE}")?;
+    let mut want = String::new(alloc);
+    for line in 1..5 {
+        let place = line + 1;
+        want.push_str(format!(in alloc;
+            "{{\"client\":1,\"line\":{line},\"place\":{place},\"reply\":{{\"responseHeader\":{{\"status\":0}}}}}}\n"
+        )?.as_str())?;
+    }
+    want.push_str(
+        "{\"client\":1,\"generation\":2,\"line\":5,\"place\":6,\"reply\":{\"responseHeader\":{\"status\":0}}}\n",
+    )?;
+    for (k, (text, docs)) in FINDS.iter().enumerate() {
+        input.push_str(format!(in alloc; "1 query {text}\n")?.as_str())?;
+        add_found(alloc, &mut want, k.saturating_add(6), k, docs)?;
+    }
+    for (k, (text, message)) in MESSAGES.iter().enumerate() {
+        let line = k.saturating_add(28);
+        input.push_str(format!(in alloc; "1 {text}\n")?.as_str())?;
+        want.push_str(format!(in alloc;
+            "{{\"client\":1,\"line\":{line},\"reply\":{{\"error\":{{\"code\":400,\"msg\":\"{message}\"}},\"responseHeader\":{{\"status\":400}}}}}}\n"
+        )?.as_str())?;
+    }
+    want.push_str("{\"acquired\":1,\"finished\":1,\"generation\":1,\"opened\":0}\n")?;
+    want.push_str(
+        "{\"acquired\":22,\"finished\":7,\"from\":1,\"fromTicket\":0,\"generation\":2,\"opened\":6}\n",
+    )?;
+    check(&rt, alloc, "run", input.as_bytes(), (0, "", want.as_str()))
+}
 
 // A byte behind a configuration, and how often, that is too large once more.
 const SIZES: [(u8, usize); 2] = [(b'\n', 100_000), (b'#', 1_048_576)];

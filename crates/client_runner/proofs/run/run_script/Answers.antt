@@ -2,6 +2,7 @@ use Rattle.std.proofs.Common.{◌≡◌, ◌<◌, ◌≤◌, IfOk, length, map, 
 use Rattle.std.specs.List.Sorted.{IsNonDecreasingBy, IsPermutation}
 use Rattle.std.proofs.lemmas.List.{map-append, take_all, take_more}
 use Rattle.std.proofs.lemmas.Result.{IfOk-weaker}
+use Rattle.script_form.specs.declared.config.Config.{Config}
 use Rattle.script_form.specs.declared.script.Line.{Line}
 use Rattle.run_laws.specs.Rows as plain
 use Rattle.run_laws.specs.Calls.{Call, call_as}
@@ -11,7 +12,9 @@ use Rattle.client_runner.specs.Histories.{GoesByHistory}
 use Rattle.client_runner.specs.Outputs.{output_view}
 use Rattle.client_runner.specs.RunOrder.{call_at}
 use Rattle.client_runner.specs.Runs.{FollowsIf, Follows}
-use Rattle.client_runner.specs.Standings.{Standing, HasRoom, searchers_of, standing}
+use Rattle.client_runner.specs.declared.runner.Runner.{Runner}
+use Rattle.client_runner.specs.Rooms.{IsFirst, IsReady}
+use Rattle.client_runner.specs.Standings.{Standing, searchers_of, standing}
 use Rattle.client_runner.proofs.InTurn.{AreServed, are_served, asks_for, index_within, comes_last}
 use Rattle.client_runner.proofs.Ended.{Served, none_served, one_more_served, ended, lawful_by}
 use Rattle.client_runner.proofs.run.run_script.Goals as goal
@@ -19,14 +22,26 @@ use Rattle.client_runner.proofs.run.run_script.Goals as goal
 abbrev no_turn : Turn
 no_turn = record { key = 0; phase = 0; index = 0 }
 
-less_room : (m n : ℕ) (st : Standing) → n ≤ m → HasRoom m st → HasRoom n st
-less_room m n st le room = record {
-  place = omega (arith, le, room.place);
-  generation = omega (arith, le, room.generation);
-  acquired = omega (arith, le, room.acquired);
-  served = omega (arith, le, room.served);
-  docs = omega (arith, le, room.docs);
+less_ready : (c : Config) (m n : ℕ) (r : Runner) → n ≤ m → IsReady c m r → IsReady c n r
+less_ready c m n r le ready = record {
+  room = record {
+    place = omega (arith, le, ready.room.place);
+    generation = omega (arith, le, ready.room.generation);
+    acquired = omega (arith, le, ready.room.acquired);
+    numbers = omega (arith, le, ready.room.numbers);
+  };
+  key = ready.key;
 }
+
+first_ready : (c : Config) (r : Runner) → IsFirst c.schema.key r → IsReady c 100000 r
+first_ready c r is =
+    let place : r.place ≡ 2 = ap (λ (s : Standing). s.place) is.standing_is in
+    let generation : r.current.generation ≡ 1 = ap (λ (s : Standing). s.current.generation) is.standing_is in
+    let count : r.current.acquired ≡ 0 = ap (λ (s : Standing). s.current.acquired) is.standing_is in
+    record {
+      room = record { place = omega (arith, place); generation = omega (arith, generation); acquired = omega (arith, count); numbers = omega (arith, is.numbers) };
+      key = is.key_is;
+    }
 
 all_ok : {X Y : Type 0} (r : Result X Y) (P Q R S : X → Type 0) → ((x : X) → P x → Q x → R x → S x) → IfOk r P → IfOk r Q → IfOk r R → IfOk r S
 all_ok (Ok x) P Q R S f p q r = f x p q r
@@ -34,8 +49,8 @@ all_ok (Err y) P Q R S f p q r = tt
 
 pub loop-turn-init : goal.loop-turn-init
 loop-turn-init g c = record {
-  served = subst (Served c.args.config.now []) (sym c.new-runner.ensures) (none_served c.args.config.now c.requires.warming);
-  room = subst (HasRoom 100000) (sym c.new-runner.ensures) (record { place = omega arith; generation = omega arith; acquired = omega arith; served = omega arith; docs = omega arith });
+  served = subst (Served c.args.config.now []) (sym c.in_ok-runner.ensures.standing_is) (none_served c.args.config.now c.requires.warming);
+  ready = first_ready c.args.config.now c.in_ok-runner.runner (subst (λ k. IsFirst k c.in_ok-runner.runner) c.key_field.ensures.number c.in_ok-runner.ensures);
 }
 
 pub bounds-get-turn : goal.bounds-get-turn
@@ -45,13 +60,13 @@ bounds-get-turn g c =
     subst (λ (lines : List Line). (get_or c.deref-turn-items.result.now c.loop-turn.turn-index no_turn).index < length lines) (sym c.get-in-loop-turn.ensures)
     (index_within c.args.script.now (get_or c.deref-turn-items.result.now c.loop-turn.turn-index no_turn) (known.turns c.loop-turn.turn-index no_turn c.loop-turn-test.true))
 
-pub step-requires-clause-room : goal.step-requires-clause-room
-step-requires-clause-room g c =
+pub step-requires-clause-ready : goal.step-requires-clause-ready
+step-requires-clause-ready g c =
     let known : AreServed c.args.script.now c.deref-turn-items.result.now = are_served c.args.script.now c.get.result.now c.in_ok-turns.turns.items c.deref-turn-items.result.now
     c.get.ensures c.deref-turn-items.ensures.value c.requires.lines c.requires.clients c.in_ok-turns.ensures.same c.in_ok-turns.ensures.rising in
     let few : length c.deref-turn-items.result.now ≤ 100000 = known.few in
     let in_range : c.loop-turn.turn-index < length c.deref-turn-items.result.now = c.loop-turn-test.true in
-    less_room (100000 - c.loop-turn.turn-index) 1 (standing c.loop-turn.runner) (omega (arith, few, in_range)) c.loop-turn.invariant.room
+    less_ready c.args.config.now (100000 - c.loop-turn.turn-index) 1 c.loop-turn.runner (omega (arith, few, in_range)) c.loop-turn.invariant.ready
 
 pub loop-turn-preserved : goal.loop-turn-preserved
 loop-turn-preserved g c =
@@ -75,7 +90,7 @@ loop-turn-preserved g c =
     let one_less : 100000 - i ≡ (100000 - (i + 1)) + 1 = omega (arith, few, in_range) in
     record {
       served = subst (λ qs. Served config qs new) (sym (ap (map (call_at script)) (take_more items i no_turn in_range) ∙ map-append (call_at script) (take i items) (turn ∷ []))) more;
-      room = c.in_ok-step.ensures.room (100000 - (i + 1)) (subst (λ n. HasRoom n old) one_less c.loop-turn.invariant.room);
+      ready = c.in_ok-step.ensures.ready config (100000 - (i + 1)) (subst (λ n. IsReady config n c.loop-turn.runner) one_less c.loop-turn.invariant.ready);
     }
 
 pub returns-clause-agrees : goal.returns-clause-agrees

@@ -9,14 +9,14 @@ run_script-requires-clause-warming g c κs within =
 
 pub run_script-requires-clause-lines : goal.run_script-requires-clause-lines
 run_script-requires-clause-lines g c κs within =
-    let same = (built_is_script c.in_ok-config.config.schema (script_lines c.args.bytes.now) c.in_ok-config.script c.in_ok-config.ensures.script).1 in
+    let same = (built_is_script c.in_ok-config.config (script_lines c.args.bytes.now) c.in_ok-config.script c.in_ok-config.ensures.script).1 in
     let most = within_lines c.args.bytes.now c.in_ok-config.ensures.within in
     omega (arith, same, most)
 
 pub run_script-requires-clause-numbers : goal.run_script-requires-clause-numbers
 run_script-requires-clause-numbers g c κs within =
-    numbers_ascend c.in_ok-config.script (built_is_script c.in_ok-config.config.schema (script_lines c.args.bytes.now) c.in_ok-config.script c.in_ok-config.ensures.script).0
+    numbers_ascend c.in_ok-config.script (built_is_script c.in_ok-config.config (script_lines c.args.bytes.now) c.in_ok-config.script c.in_ok-config.ensures.script).0
 
 pub run_script-requires-clause-clients : goal.run_script-requires-clause-clients
 run_script-requires-clause-clients g c κs within =
-    (built_is_script c.in_ok-config.config.schema (script_lines c.args.bytes.now) c.in_ok-config.script c.in_ok-config.ensures.script).0.asked
+    (built_is_script c.in_ok-config.config (script_lines c.args.bytes.now) c.in_ok-config.script c.in_ok-config.ensures.script).0.asked

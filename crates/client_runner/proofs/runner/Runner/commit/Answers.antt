@@ -1,24 +1,43 @@
-use Rattle.std.proofs.Common.{sym, ◌∙◌, ap, codes, refl, ◌+◌}
+use Rattle.std.proofs.Common.{◌∙◌, ap, refl, ◌+◌, Bool, cond, Ok}
 use Rattle.std.specs.Result.{result_map_both}
-use Rattle.run_history.specs.Tellings.{form_wants}
+use Rattle.request_form.specs.Messages.{request_message}
+use Rattle.request_form.specs.Requests.{is_no_memory}
+use Rattle.search_model.specs.Live.{nothing}
+use Rattle.run_laws.specs.CallReadings.{commit_told}
+use Rattle.run_history.specs.Tellings.{a_searcher, an_update, form_wants}
 use Rattle.client_runner.specs.Standings.{standing}
 use Rattle.client_runner.specs.Views.{request_view}
-use Rattle.client_runner.proofs.Answered.{opened_follows, refused_follows, wants_commit}
-use Rattle.client_runner.proofs.Commits.{commit_empty, commit_full}
+use Rattle.client_runner.proofs.Answered.{accepted_follows, opened_follows, refusal_answers, wants_commit}
+use Rattle.client_runner.proofs.Readings.{commit_reads, is_false, is_true}
 use Rattle.client_runner.proofs.runner.Runner.commit.Goals as goal
 
--- some parameters that are not built yet
-pub returns-then-not-is_empty-clause-ok : goal.returns-then-not-is_empty-clause-ok
-returns-then-not-is_empty-clause-ok c =
-    refused_follows c.args.config.now c.args.head c.args.body.now (standing c.args.self.now) c.in_ok-reply.reply (request_view c.row.result) (codes "NotBuilt")
-    c.row.ensures c.in_ok-reply.ensures
-    (wants_commit c.args.config.now c.args.head c.args.body.now c.requires.verb ∙ ap (λ r. result_map_both form_wants (λ m. m) r) (commit_full c.args.body.now (sym c.is_empty.ensures ∙ c.if-not-is_empty.true)))
+-- the fault is the first one, and no want of memory
+pub returns-in-Err-clause-ok : goal.returns-in-Err-clause-ok
+returns-in-Err-clause-ok c =
+    refusal_answers c.args.config.now c.args.head c.args.body.now (standing c.args.self.now) (request_message c.in-Err.fault) c.refused_row.result (is_no_memory c.in-Err.fault)
+    c.refused_row.ensures.fault c.refused_row.ensures.row
+    (λ known.
+    let told = rw known at c.in-Err.ensures in
+    wants_commit c.args.config.now c.args.head c.args.body.now c.requires.verb
+    ∙ ap (λ r. result_map_both form_wants (λ m. m) r) (commit_reads c.args.body.now ∙ ap commit_told told))
 
--- no parameters
+-- it opens no searcher
+pub returns-then-not-form-clause-ok : goal.returns-then-not-form-clause-ok
+returns-then-not-form-clause-ok c =
+    accepted_follows c.args.config.now c.args.head c.args.body.now (standing c.args.self.now) c.in_ok-reply.reply (request_view c.row.result) nothing c.take_place-place.result (standing c.take_place-place.new.self)
+    c.row.ensures c.take_place-place.ensures.place c.in_ok-reply.ensures
+    (wants_commit c.args.config.now c.args.head c.args.body.now c.requires.verb
+    ∙ ap (λ r. result_map_both form_wants (λ m. m) r) (commit_reads c.args.body.now ∙ ap commit_told c.in-Ok.ensures)
+    ∙ ap (λ (b : Bool). Ok (cond b a_searcher (an_update nothing))) (is_false c.in-Ok.form.opens c.if-not-form.true))
+    c.take_place-place.ensures.taken
+
+-- it opens one
 pub returns-clause-ok : goal.returns-clause-ok
 returns-clause-ok c =
-    opened_follows c.args.config.now c.args.head c.args.body.now (standing c.args.self.now) c.in_ok-reply-2.reply (request_view c.row-2.result)
+    opened_follows c.args.config.now c.args.head c.args.body.now (standing c.args.self.now) c.in_ok-reply.reply (request_view c.row-2.result)
     c.in_ok-place.place (c.args.self.now.current.generation + 1) (standing c.open.new.self)
-    c.row-2.ensures c.in_ok-place.ensures.place refl c.in_ok-reply-2.ensures
-    (wants_commit c.args.config.now c.args.head c.args.body.now c.requires.verb ∙ ap (λ r. result_map_both form_wants (λ m. m) r) (commit_empty c.args.body.now (sym c.is_empty.ensures ∙ c.if-not-is_empty.false)))
-    c.requires.warming c.requires.room c.in_ok-place.ensures.ok
+    c.row-2.ensures c.in_ok-place.ensures.place refl c.in_ok-reply.ensures
+    (wants_commit c.args.config.now c.args.head c.args.body.now c.requires.verb
+    ∙ ap (λ r. result_map_both form_wants (λ m. m) r) (commit_reads c.args.body.now ∙ ap commit_told c.in-Ok.ensures)
+    ∙ ap (λ (b : Bool). Ok (cond b a_searcher (an_update nothing))) (is_true c.in-Ok.form.opens c.if-not-form.false))
+    c.requires.warming c.requires.ready.room.generation c.in_ok-place.ensures.ok

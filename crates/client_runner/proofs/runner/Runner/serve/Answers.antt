@@ -1,9 +1,10 @@
 use Rattle.std.proofs.Common.{◌≡◌, ◌+◌, refl, sym, ap, subst}
 use Rattle.client_runner.specs.declared.rows.RequestRow.{RequestRow}
 use Rattle.client_runner.specs.Runs.{Follows}
-use Rattle.client_runner.specs.Standings.{HasRoom, call_of, standing, told_too}
+use Rattle.client_runner.specs.Standings.{call_of, standing, told_too}
 use Rattle.client_runner.specs.Views.{request_view}
-use Rattle.client_runner.proofs.Answered.{follows_at, no_memory_follows, one_row_more, same_rows, told_room}
+use Rattle.client_runner.proofs.Answered.{follows_at, no_memory_follows, one_row_more, same_rows}
+use Rattle.client_runner.proofs.Ready.{ready_kept}
 use Rattle.client_runner.proofs.runner.Runner.serve.Goals as goal
 use Rattle.client_runner.proofs.runner.Runner.serve.Goals.{in-Ok, in-Err+in_ok-no_memory_reply-in-Err}
 
@@ -30,10 +31,8 @@ returns-clause-follows c =
     follows_at c.args.config.now (call_of c.args.head c.args.body.now) (standing (record c.args.self.now { rows = c.reserve.new.self })) (standing c.args.self.now)
     (told_too (standing c.answer.new.self) (request_view c.match-answer.row)) (standing (record c.answer.new.self { rows = c.push.new.self })) (sym reserved) pushed followed
 
--- the row takes no room
-pub returns-clause-room : goal.returns-clause-room
-returns-clause-room c n h =
-    let reserved : standing (record c.args.self.now { rows = c.reserve.new.self }) ≡ standing c.args.self.now = same_rows (standing c.args.self.now) c.args.self.now.rows.items c.reserve.new.self.items c.in_ok-reserve.ensures.items in
-    let pushed : standing (record c.answer.new.self { rows = c.push.new.self }) ≡ told_too (standing c.answer.new.self) (request_view c.match-answer.row) =
-    one_row_more (standing c.answer.new.self) c.answer.new.self.rows.items c.push.new.self.items c.match-answer.row c.in_ok-push.ensures.items in
-    subst (HasRoom n) (sym pushed) (told_room (standing c.answer.new.self) (request_view c.match-answer.row) n (c.answer.ensures.room n (subst (HasRoom (n + 1)) (sym reserved) h)))
+-- the row takes no number
+pub returns-clause-ready : goal.returns-clause-ready
+returns-clause-ready c config n h =
+    ready_kept config n c.answer.new.self (record c.answer.new.self { rows = c.push.new.self }) refl refl refl refl refl
+    (c.answer.ensures.ready config n (ready_kept config (n + 1) c.args.self.now (record c.args.self.now { rows = c.reserve.new.self }) refl refl refl refl refl h))

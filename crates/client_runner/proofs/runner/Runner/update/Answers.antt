@@ -5,7 +5,7 @@ use Rattle.search_model.specs.Messages.{doc_message}
 use Rattle.run_history.specs.Tellings.{an_update}
 use Rattle.client_runner.specs.Standings.{standing}
 use Rattle.client_runner.specs.Views.{request_view}
-use Rattle.client_runner.proofs.Answered.{accepted_follows, changed_room, refused_follows, wants_add}
+use Rattle.client_runner.proofs.Answered.{accepted_follows, refused_follows, wants_add}
 use Rattle.client_runner.proofs.runner.Runner.update.Goals as goal
 
 -- the document was read
@@ -15,9 +15,6 @@ returns-in_ok-place-in-Ok-clause-ok c =
     c.row.ensures c.in_ok-place-in-Ok.ensures.place c.in_ok-reply-in-Ok.ensures
     (wants_add c.args.config.now c.args.head c.args.body.now c.requires.verb ∙ ap (λ r. result_map_both an_update (λ m. m) (result_map_both added doc_message r)) c.in-Ok.ensures.read)
     c.in_ok-place-in-Ok.ensures.ok
-
-pub returns-in_ok-place-in-Ok-clause-room : goal.returns-in_ok-place-in-Ok-clause-room
-returns-in_ok-place-in-Ok-clause-room c n h = rw c.in_ok-place-in-Ok.ensures.ok (changed_room (standing c.args.self.now) c.in-Ok.doc n h)
 
 -- the fault is the first one, and no want of memory
 pub returns-in_ok-reply-in-Err-clause-ok : goal.returns-in_ok-reply-in-Err-clause-ok

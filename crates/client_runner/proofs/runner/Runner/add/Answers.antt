@@ -1,0 +1,17 @@
+use Rattle.std.proofs.Common.{◌≡◌, ◌≤◌, ◌+◌, ap, sym, subst, ◌∙◌, arith}
+use Rattle.served_index.specs.IndexState.{IndexState}
+use Rattle.client_runner.specs.Standings.{Standing}
+use Rattle.client_runner.proofs.Ready.{stays}
+use Rattle.client_runner.proofs.runner.Runner.add.Goals as goal
+
+pub returns-clause-ready : goal.returns-clause-ready
+returns-clause-ready c =
+    let taken = c.take_place.ensures.taken in
+    let same = c.take_place.ensures.index in
+    let place : c.take_place.new.self.place ≡ c.args.self.now.place + 1 = ap (λ (s : Standing). s.place) taken in
+    let generation : c.take_place.new.self.current.generation ≡ c.args.self.now.current.generation = ap (λ (s : Standing). s.current.generation) taken in
+    let count : c.take_place.new.self.current.acquired ≡ c.args.self.now.current.acquired = ap (λ (s : Standing). s.current.acquired) taken in
+    stays c.args.self.now c.take_place.new.self
+    (subst (λ (x : IndexState). x.numbers ≤ c.args.self.now.index.numbers + 1) (sym same) c.add.ensures.numbers)
+    (ap (λ (x : IndexState). x.key) same ∙ c.add.ensures.key)
+    (omega (arith, place)) (omega (arith, generation)) (omega (arith, count))

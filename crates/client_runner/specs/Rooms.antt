@@ -1,0 +1,32 @@
+-- The room that a run's numbers leave, and what its index keeps.
+use Rattle.std.specs.Prelude.{◌≡◌, ℕ, ◌+◌, ◌*◌, ◌<◌, ◌≤◌, ◌^◌}
+use Rattle.doc_sets.specs.declared.TheConstants.{MAX_DOCS}
+use Rattle.script_form.specs.declared.config.Config.{Config}
+use Rattle.client_runner.specs.declared.runner.Runner.{Runner}
+use Rattle.client_runner.specs.Standings.{standing, first}
+
+-- before the first request: no number is taken
+pub record IsFirst (key : ℕ) (r : Runner) : Type 0 where
+  pub standing_is : standing r ≡ first
+  pub numbers : r.index.numbers ≡ 0
+  pub key_is : r.index.key ≡ key
+
+-- there is a next place
+abbrev pub HasPlace : Runner → Type 0
+HasPlace r = r.place + 1 < 2 ^ 64
+
+-- its numbers leave room for n more requests
+pub record HasRoom (n : ℕ) (r : Runner) : Type 0 where
+  pub place : r.place + 2 * n < 2 ^ 64
+  pub generation : r.current.generation + n < 2 ^ 27
+  pub acquired : r.current.acquired + n < 2 ^ 32
+  pub numbers : r.index.numbers + n ≤ MAX_DOCS
+
+-- and its documents have the configuration's unique key
+pub record IsReady (c : Config) (n : ℕ) (r : Runner) : Type 0 where
+  pub room : HasRoom n r
+  pub key : r.index.key ≡ c.schema.key
+
+-- it is ready for one request less
+abbrev pub StaysReady : Runner → Runner → Type 0
+StaysReady old new = (c : Config) (n : ℕ) → IsReady c (n + 1) old → IsReady c n new
