@@ -73,9 +73,10 @@ impl Runner {
 ///
 /// Each searcher is warmed and registered in the commit that opens it. Where memory is wanting for a request, it has
 /// the 500 reply, takes no place, and all else stands as before; `NoMemory` comes where not even that reply could be
-/// had. It costs, for each add, a look at its unique key; for each commit a step, and now and then a pass over the
-/// documents that as many replaced ones have paid for; for each query a comparison a document that its searcher sees,
-/// and a step a replaced one; and a sort of the rows by line.
+/// had. It costs, for each add and each delete by unique key, the postings of that key and a look among the pending
+/// documents; for each commit a pass over what was added, a sort of its keys, a step for each 64 documents, and now
+/// and then the merge of segments; for each query and each delete by query its evaluation; and a sort of the rows by
+/// line.
 pub fn run_script<G: Gate>(
     alloc: Global,
     config: &Config,
