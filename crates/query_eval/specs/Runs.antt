@@ -32,6 +32,10 @@ abbrev pub starts_at_first : List Posting → ℕ → ℕ → ℕ × ℕ → Boo
 starts_at_first [] n offset p = false
 starts_at_first (q ∷ qs) n offset p = nat_eq q.doc n && is_place (p.0, p.1 + offset) q.places
 
+-- those places of a document's posting
+abbrev pub starts_here : List Posting → ℕ → Posting → List (ℕ × ℕ)
+starts_here next offset h = filter (λ p. starts_at_first next h.doc offset p) h.places
+
 -- the posting with those of its places that a place of the next word follows, `offset` tokens on
 abbrev pub followed_by : List Posting → ℕ → Posting → Posting
 followed_by next offset h = record {

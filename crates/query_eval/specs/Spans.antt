@@ -6,14 +6,18 @@ use Rattle.field_schema.specs.declared.key.Key.TheVariants as key
 use Rattle.doc_model.specs.Document.{Document}
 use Rattle.query_tree.specs.declared.query.End.{End}
 use Rattle.query_tree.specs.declared.query.End.TheVariants as end
-use Rattle.query_tree.specs.Matches.{is_above, is_below}
+use Rattle.query_tree.specs.Matches.{has_key, is_above, is_below}
 use Rattle.segment_postings.specs.Postings.{has_key_at}
 use Rattle.query_eval.specs.declared.span.Span.{Span}
 use Rattle.query_eval.specs.declared.span.Span.TheVariants.{Between, Strings, Tokens}
 
+-- the key lies between two ends
+abbrev pub is_within : End → End → Key → Bool
+is_within low high k = is_above low k && is_below high k
+
 -- the span takes the key
 abbrev pub takes : Span → Key → Bool
-takes (Between low high) k = is_above low.now k && is_below high.now k
+takes (Between low high) k = is_within low.now high.now k
 takes (Strings p) (key.Str text) = starts_with nat_eq text p.now
 takes (Strings p) k = false
 takes (Tokens p) (key.Token text) = starts_with nat_eq text p.now
@@ -34,6 +38,10 @@ abbrev pub first_of : Span → Key
 first_of (Between low high) = first_from low.now
 first_of (Strings p) = key.Str p.now
 first_of (Tokens p) = key.Token p.now
+
+-- a document has a key in the field that the span takes
+abbrev pub has_taken : ℕ → Span → Document → Bool
+has_taken field s d = has_key d.values field (takes s)
 
 -- a document has one of the keys that the span takes
 abbrev pub taken_keys : Span → ℕ → List Key → Document → Bool

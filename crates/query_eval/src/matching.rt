@@ -1,10 +1,9 @@
 //! Whether one document matches a query.
-ghost use Rattle.std.specs.Prelude.{◌≡◌, ◌&&◌, IfOk, not};
-ghost use Rattle.field_schema.specs.Values.{values_at};
+ghost use Rattle.std.specs.Prelude.{◌≡◌, IfOk};
 ghost use Rattle.std.specs.List.{list_all, list_any};
 ghost use Rattle.query_tree.specs.KeysOfDocs.{keys_of_value};
-ghost use Rattle.query_tree.specs.Matches.{has_key, has_words, is_empty, matches as nested, stand_in, top};
-ghost use Rattle.query_eval.specs.Sought.{seeks};
+ghost use Rattle.query_tree.specs.Matches.{has_key, matches as nested, stand_in, top};
+ghost use Rattle.query_eval.specs.Sought.{seeks, says_words};
 
 use crate::evaluating::is_negative;
 use crate::span::{has_prefix, is_above, is_below};
@@ -42,8 +41,8 @@ impl<'a> Sought<'a> {
 
 /// Whether a document matches a query.
 ///
-/// Fails only for want of memory. It costs a walk over the document's values in the fields that are asked for, and
-/// the tokens of its texts there, once for each part of the query.
+/// Fails only for want of memory. It costs a walk over the document's values in the fields that are asked
+/// for, and the tokens of its texts there, once for each part of the query.
 pub fn matches(alloc: Global, doc: &Doc, query: &Query) -> Result<bool, NoMemory>
     ensures { IfOk result (λ b. b ≡ top doc.now.values query.now) }
 {
@@ -139,7 +138,7 @@ fn value_has(alloc: Global, value: &Key, sought: &Sought) -> Result<bool, NoMemo
 
 // Whether the words stand in turn in one of its texts.
 fn speaks(alloc: Global, doc: &Doc, field: FieldNo, words: &[Text]) -> Result<bool, NoMemory>
-    ensures { IfOk result (λ b. b ≡ (not (is_empty words.now) && list_any (has_words words.now) (values_at doc.now.values field))) }
+    ensures { IfOk result (λ b. b ≡ says_words doc.now.values field words.now) }
 {
     if words.is_empty() {
         return Ok(false);

@@ -1,20 +1,19 @@
 //! Phrases, by the places of their words.
-ghost use Rattle.std.specs.Prelude.{◌≡◌, ◌+◌, IfOk, not, ◌&&◌, map, filter};
-ghost use Rattle.std.specs.List.{list_any};
-ghost use Rattle.field_schema.specs.Values.{values_at};
-ghost use Rattle.query_tree.specs.Matches.{has_words, is_empty};
+ghost use Rattle.std.specs.Prelude.{◌≡◌, ◌+◌, IfOk, map, filter};
 ghost use Rattle.segment_postings.specs.Postings.{postings_of};
 ghost use Rattle.field_schema.specs.declared.key.Key.TheVariants as key;
-ghost use Rattle.query_eval.specs.Found.{found};
+ghost use Rattle.query_eval.specs.Found.{Finds};
+ghost use Rattle.query_eval.specs.Sought.{says_words};
 ghost use Rattle.query_eval.specs.Kept.{Kept, IsSound};
-ghost use Rattle.query_eval.specs.Runs.{followed_by, is_place, same_place, from_doc, starts_at_first, filled_numbers, DocsRise};
+ghost use Rattle.query_eval.specs.Runs.{followed_by, is_place, same_place, from_doc};
+ghost use Rattle.query_eval.specs.Runs.{starts_here, filled_numbers, DocsRise};
 
 use doc_sets::{DocNo, DocSet};
 use field_schema::{FieldNo, Key, NoMemory, Text};
 use segment_postings::{Places, Posting, Reads};
 use std::alloc::Global;
 
-// The documents in one of whose texts the words stand in turn. It walks the words' postings and places, once each.
+// The documents in one of whose texts the words stand in turn. It walks the words' postings once each.
 pub(crate) fn phrase<P: Reads>(
     alloc: Global,
     probe: &mut P,
@@ -22,7 +21,7 @@ pub(crate) fn phrase<P: Reads>(
     words: &[Text],
 ) -> Result<DocSet, NoMemory>
     requires { IsSound (P.view probe.old) (P.terms probe.old) }
-    ensures found { IfOk result (λ s. s ≡ found (λ d. not (is_empty words.now) && list_any (has_words words.now) (values_at d.values field)) (P.view probe.old)) }
+    ensures found { Finds result (λ d. says_words d.values field words.now) (P.view probe.old) }
     ensures kept { Kept P.view P.terms P.counted probe.old probe.new }
 {
     let Some((first, others)) = words.split_first() else {
@@ -92,14 +91,15 @@ fn skip_docs(postings: &[Posting], doc: DocNo) -> &[Posting]
     rest
 }
 
-// The places of a posting that are followed in the first of the next word's postings, if it is of the same document.
+// The places of a posting that are followed in the first of the next word's postings, if it is of the same
+// document.
 fn starts_in(
     alloc: Global,
     posting: &Posting,
     next: &[Posting],
     offset: usize,
 ) -> Result<Vec<(u32, u32)>, NoMemory>
-    ensures { IfOk result (λ v. v.items ≡ filter (λ p. starts_at_first next.now posting.now.doc offset p) posting.now.places) }
+    ensures { IfOk result (λ v. v.items ≡ starts_here next.now offset posting.now) }
 {
     let Some((first, _)) = next.split_first() else {
         return Ok(Vec::new(alloc));

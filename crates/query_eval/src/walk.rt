@@ -1,12 +1,11 @@
 //! Terms, and walks along the terms of a field.
-ghost use Rattle.std.specs.Prelude.{◌≡◌, ◌≤◌, ◌&&◌, IfOk, OnOk};
-ghost use Rattle.std.specs.FinSet as set;
-ghost use Rattle.query_tree.specs.Matches.{has_key, has_prefix, is_above, is_below};
+ghost use Rattle.std.specs.Prelude.{◌≡◌, ◌≤◌};
+ghost use Rattle.query_tree.specs.Matches.{has_key, has_prefix};
 ghost use Rattle.segment_postings.specs.Postings.{has_key_at};
 ghost use Rattle.segment_postings.specs.Terms.{raised};
-ghost use Rattle.query_eval.specs.Found.{found};
+ghost use Rattle.query_eval.specs.Found.{Finds, Adds};
 ghost use Rattle.query_eval.specs.Kept.{Kept, IsSound};
-ghost use Rattle.query_eval.specs.Spans.{takes, taken_keys, IsParted};
+ghost use Rattle.query_eval.specs.Spans.{is_within, has_taken, taken_keys, IsParted};
 
 use crate::numbers::{add_numbers, set_of};
 use crate::span::Span;
@@ -29,7 +28,7 @@ pub(crate) fn term<P: Reads>(
     key: &Key,
 ) -> Result<DocSet, NoMemory>
     requires { IsSound (P.view probe.old) (P.terms probe.old) }
-    ensures found { IfOk result (λ s. s ≡ found (has_key_at field key.now) (P.view probe.old)) }
+    ensures found { Finds result (has_key_at field key.now) (P.view probe.old) }
     ensures kept { Kept P.view P.terms P.counted probe.old probe.new }
     ensures asked { (P.counted probe.new).postings ≡ raised (P.counted probe.old).postings }
 {
@@ -51,7 +50,7 @@ pub(crate) fn between<P: Reads>(
     high: &End,
 ) -> Result<DocSet, NoMemory>
     requires { IsSound (P.view probe.old) (P.terms probe.old) }
-    ensures found { IfOk result (λ s. s ≡ found (λ d. has_key d.values field (λ k. is_above low.now k && is_below high.now k)) (P.view probe.old)) }
+    ensures found { Finds result (λ d. has_key d.values field (is_within low.now high.now)) (P.view probe.old) }
     ensures kept { Kept P.view P.terms P.counted probe.old probe.new }
 {
     let mut numbers = Vec::new(alloc);
@@ -67,7 +66,7 @@ pub(crate) fn beginning<P: Reads>(
     prefix: &Text,
 ) -> Result<DocSet, NoMemory>
     requires { IsSound (P.view probe.old) (P.terms probe.old) }
-    ensures found { IfOk result (λ s. s ≡ found (λ d. has_key d.values field (has_prefix prefix.now)) (P.view probe.old)) }
+    ensures found { Finds result (λ d. has_key d.values field (has_prefix prefix.now)) (P.view probe.old) }
     ensures kept { Kept P.view P.terms P.counted probe.old probe.new }
 {
     let mut numbers = Vec::new(alloc);
@@ -86,7 +85,7 @@ fn walk<P: Reads>(
     span: &Span,
 ) -> Result<(), NoMemory>
     requires { IsSound (P.view probe.old) (P.terms probe.old) }
-    ensures found { OnOk result (set.from_list numbers.new.items ≡ set.union (set.from_list numbers.old.items) (found (λ d. has_key d.values field (takes span.now)) (P.view probe.old))) }
+    ensures found { Adds result numbers.old.items numbers.new.items (has_taken field span.now) (P.view probe.old) }
     ensures kept { Kept P.view P.terms P.counted probe.old probe.new }
 {
     let mut from = span.first(alloc)?;
@@ -127,7 +126,7 @@ fn add_piece<P: Reads>(
     span: &Span,
 ) -> Result<(), NoMemory>
     requires { IsSound (P.view probe.old) (P.terms probe.old) }
-    ensures found { OnOk result (set.from_list numbers.new.items ≡ set.union (set.from_list numbers.old.items) (found (taken_keys span.now field keys.now) (P.view probe.old))) }
+    ensures found { Adds result numbers.old.items numbers.new.items (taken_keys span.now field keys.now) (P.view probe.old) }
     ensures kept { Kept P.view P.terms P.counted probe.old probe.new }
 {
     for key in keys {
