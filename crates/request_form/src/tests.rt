@@ -221,7 +221,7 @@ fn request_text(alloc: Global, schema: &Schema, request: Request) -> Result<Stri
     let (start, rows) = (request.start, request.rows);
     let page = format!(in alloc; " {start} {rows}")?;
     out.push_str(page.as_str())?;
-    if let FieldList::Names(names) = request.fields {
+    if let FieldList::Names(names) = &request.fields {
         for name in names.get() {
             out.push_str(" ")?;
             out.push_str(name.get())?;

@@ -26,7 +26,7 @@ returns-in-Err-clause-ok c =
     refusal_answers c.args.config.now c.args.head c.args.body.now (standing c.args.self.now) (request_message c.in-Err.fault) c.refused_row.result (is_no_memory c.in-Err.fault)
     c.refused_row.ensures.fault c.refused_row.ensures.row
     (λ known.
-    let told = rw known at c.in-Err.ensures in
+    let told = rw known at c.in-Err.ensures.request in
     wants_query c.args.config.now c.args.head c.args.body.now c.requires.verb ∙ by_defaults c.args.config.now c.args.body.now c.defaults.result c.defaults.ensures
     ∙ ap (λ r. result_map_both an_answer (λ m. m) (answerable r)) told)
 
@@ -36,7 +36,7 @@ returns-then-not-is_empty-clause-ok c =
     refused_follows c.args.config.now c.args.head c.args.body.now (standing c.args.self.now) c.in_ok-reply.reply (request_view c.row.result) (codes "NotBuilt")
     c.row.ensures c.in_ok-reply.ensures
     (wants_query c.args.config.now c.args.head c.args.body.now c.requires.verb ∙ by_defaults c.args.config.now c.args.body.now c.defaults.result c.defaults.ensures
-    ∙ ap (λ r. result_map_both an_answer (λ m. m) (answerable r)) c.in-Ok.ensures
+    ∙ ap (λ r. result_map_both an_answer (λ m. m) (answerable r)) c.in-Ok.ensures.request
     ∙ ap (λ r. result_map_both an_answer (λ m. m) r) (in_no_order c.in-Ok.request c.in-Ok.request.sort
     (subst (λ (ks : List SortKey). (length ks == 0) ≡ false) c.get.ensures (sym c.is_empty.ensures ∙ c.if-not-is_empty.true))))
 
@@ -47,7 +47,7 @@ returns-clause-ok c =
     (asked_by c.in-Ok.request) c.args.self.now.current.generation c.acquire-ticket.result (standing c.acquire-ticket.new.self)
     c.row-2.ensures refl c.acquire-ticket.ensures.ticket c.in_ok-reply-2.ensures
     (wants_query c.args.config.now c.args.head c.args.body.now c.requires.verb ∙ by_defaults c.args.config.now c.args.body.now c.defaults.result c.defaults.ensures
-    ∙ ap (λ r. result_map_both an_answer (λ m. m) (answerable r)) c.in-Ok.ensures
+    ∙ ap (λ r. result_map_both an_answer (λ m. m) (answerable r)) c.in-Ok.ensures.request
     ∙ ap (λ r. result_map_both an_answer (λ m. m) r) (in_index_order c.in-Ok.request c.in-Ok.request.sort
     (subst (λ (ks : List SortKey). (length ks == 0) ≡ true) c.get.ensures (sym c.is_empty.ensures ∙ c.if-not-is_empty.false))))
     c.acquire-ticket.ensures.acquired
