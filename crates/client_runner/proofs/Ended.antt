@@ -9,7 +9,7 @@ use Rattle.script_form.specs.declared.config.Config.{Config}
 use Rattle.script_form.specs.declared.script.Line.{Line}
 use Rattle.run_laws.specs.Rows.{RequestRow, Output}
 use Rattle.run_laws.specs.Calls.{Call, Told, calls_of, tell}
-use Rattle.run_laws.specs.Lawful.{Ascends, Lawful, call_here, told_here}
+use Rattle.run_laws.specs.Lawful.{Ascends, Lawful, call_here, told_here, is_acquired_first}
 use Rattle.run_history.specs.Tellings.{Telling, Life}
 use Rattle.search_model.specs.Live.{nothing}
 use Rattle.run_history.specs.Agreement.{Agrees, OutputAgrees, ComesBefore}
@@ -102,8 +102,14 @@ pub record Served (c : Config) (calls : List Call) (st : Standing) : Type 0 wher
   pub runs : Runs c history tellings lives st
   pub calls_are : map (λ t. t.told.call) tellings ≡ calls
 
-pub none_served : (c : Config) → 0 < c.max_warming → Served c [] first
-none_served c room = record { history = start_entries 1 (0, nothing) 1 []; tellings = []; lives = first_life ∷ []; runs = runs_first c room; calls_are = refl }
+pub none_served : (c : Config) → 0 < c.max_warming → Served c [] (first (is_acquired_first c))
+none_served c room = record {
+  history = start_entries 1 (0, nothing) 1 [] (is_acquired_first c);
+  tellings = [];
+  lives = first_life (is_acquired_first c) ∷ [];
+  runs = runs_first c room;
+  calls_are = refl;
+}
 
 pub one_more_served : (c : Config) (calls : List Call) (call : Call) (old new : Standing) → Served c calls old → Follows c call old new → AllByRecursion (λ q. ComesBefore call q → ⊥) calls → Served c (calls ++ call ∷ []) new
 one_more_served c calls call old new before follows last =

@@ -10,7 +10,7 @@ use Rattle.search_model.specs.Reply.{accepted, found}
 use Rattle.script_form.specs.declared.config.Config.{Config}
 use Rattle.run_laws.specs.Rows.{RequestRow, SearcherRow}
 use Rattle.run_laws.specs.Calls.{Call, Told}
-use Rattle.run_laws.specs.Lawful.{Shows, IsIdle, call_here, told_here}
+use Rattle.run_laws.specs.Lawful.{Shows, IsIdle, call_here, told_here, is_acquired_first}
 use Rattle.run_history.specs.Tellings.{Telling, Life, an_update, a_searcher, an_answer, wants, HasNumbers}
 use Rattle.run_history.specs.Agreement.{RepliesIdly}
 use Rattle.run_history.specs.Serial.{Serves, telling, idle, once_more, acquired_once_more, first_life, next_life, start_entries, update_entries, query_entries, opening_entries}
@@ -141,10 +141,11 @@ module _ (c : Config) (call : Call) (st : Standing) (row : RequestRow) (here : t
 
 -- ---- the beginning
 
--- before the first request: the first searcher was opened and registered
-pub runs_first : (c : Config) → 0 < c.max_warming → Runs c (start_entries 1 (0, nothing) 1 []) [] (first_life ∷ []) first
+-- before the first request: the first searcher was opened and registered, and its listeners may have acquired it
+pub runs_first : (c : Config) → 0 < c.max_warming
+    → Runs c (start_entries 1 (0, nothing) 1 [] (is_acquired_first c)) [] (first_life (is_acquired_first c) ∷ []) (first (is_acquired_first c))
 runs_first c room = record {
-  serves = starts ℕ reading (limits c) c 1 (0, nothing) 1 [] (record { first = refl; last = omega arith; room = room; slot_below = omega arith; none = refl; from = refl });
+  serves = starts ℕ reading (limits c) c 1 (0, nothing) 1 [] (record { first = refl; last = omega arith; room = room; slot_below = omega arith; none = refl });
   rows = refl;
   here = tt;
   searchers = refl;

@@ -1,13 +1,13 @@
 -- The room that a run's numbers leave, and what its index keeps.
-use Rattle.std.specs.Prelude.{◌≡◌, ℕ, ◌+◌, ◌*◌, ◌<◌, ◌≤◌, ◌^◌}
+use Rattle.std.specs.Prelude.{◌≡◌, ℕ, ◌+◌, ◌*◌, ◌<◌, ◌≤◌, ◌^◌, Bool}
 use Rattle.doc_sets.specs.declared.TheConstants.{MAX_DOCS}
 use Rattle.script_form.specs.declared.config.Config.{Config}
 use Rattle.client_runner.specs.declared.runner.Runner.{Runner}
 use Rattle.client_runner.specs.Standings.{standing, first}
 
 -- before the first request: no number is taken
-pub record IsFirst (key : ℕ) (r : Runner) : Type 0 where
-  pub standing_is : standing r ≡ first
+pub record IsFirst (key : ℕ) (listened : Bool) (r : Runner) : Type 0 where
+  pub standing_is : standing r ≡ first listened
   pub numbers : r.index.numbers ≡ 0
   pub key_is : r.index.key ≡ key
 

@@ -1,5 +1,5 @@
 -- Where a serial run stands.
-use Rattle.std.specs.Prelude.{◌≡◌, ℕ, ◌+◌, ◌*◌, ◌<◌, ◌^◌, List, [], ◌∷◌, ◌++◌, length, map, true, Option, Some, None}
+use Rattle.std.specs.Prelude.{◌≡◌, ℕ, ◌+◌, ◌*◌, ◌<◌, ◌^◌, List, [], ◌∷◌, ◌++◌, length, map, Bool, true, Option, Some, None}
 use Rattle.script_form.specs.declared.config.Config.{Config}
 use Rattle.doc_model.specs.Document.{Document}
 use Rattle.request_form.specs.declared.request.Request.{Request}
@@ -8,6 +8,7 @@ use Rattle.search_model.specs.Answer.{answer}
 use Rattle.search_model.specs.Reply.{Outcome, found, refused, reply_text, code_of, found_of, docs_of}
 use Rattle.run_laws.specs.Rows.{RequestRow, SearcherRow}
 use Rattle.run_laws.specs.Calls.{Call}
+use Rattle.run_history.specs.Serial.{first_row}
 use Rattle.run_laws.specs.CallReadings.{asked_by}
 use Rattle.client_runner.specs.declared.rows.RequestRow as rows
 use Rattle.client_runner.specs.declared.runner.Head.{Head}
@@ -34,15 +35,15 @@ standing r = record {
   current = searcher_view r.current;
 }
 
--- before the first request: the first searcher is registered, and sees nothing
-abbrev pub first : Standing
-first = record {
+-- before the first request: the first searcher is registered, and sees nothing; its listeners may have acquired it
+abbrev pub first : Bool → Standing
+first listened = record {
   docs = [];
   served = [];
   place = 2;
   rows = [];
   earlier = [];
-  current = record { generation = 1; opened = 0; ended = 1; registered = true; acquired = 0; from = None };
+  current = first_row listened;
 }
 
 -- ---- what is done

@@ -2,7 +2,7 @@ ghost use Rattle.std.specs.Prelude.{◌≡◌, ◌<◌, ◌≤◌, IfOk, OnOk, l
 ghost use Rattle.std.specs.List.{All};
 ghost use Rattle.std.specs.List.Sorted.{IsNonDecreasingBy, IsPermutation};
 ghost use Rattle.script_form.specs.Ranges.{HasClient};
-ghost use Rattle.run_laws.specs.Lawful.{Ascends, Lawful};
+ghost use Rattle.run_laws.specs.Lawful.{Ascends, Lawful, is_acquired_first as acquired_first};
 ghost use Rattle.client_runner.specs.Histories.{GoesByHistory};
 ghost use Rattle.client_runner.specs.Outputs.{output_view};
 ghost use Rattle.client_runner.specs.Rooms.{IsReady, StaysReady};
@@ -69,9 +69,17 @@ impl Runner {
     }
 }
 
+// Whether the first searcher serves before its listeners have run, and has some.
+fn is_acquired_first(config: &Config) -> bool
+    ensures { result ≡ acquired_first config.now }
+{
+    config.cold && !config.first.as_slice().is_empty()
+}
+
 /// Runs the script: phase by phase, the clients of a phase one after another by number, each client's lines in turn.
 ///
-/// Each searcher is warmed and registered in the commit that opens it. Where memory is wanting for a request, it has
+/// Each searcher is warmed and registered in the commit that opens it. Where the first searcher serves before its
+/// listeners have run (`useColdSearcher`) and there are some, its first ticket is theirs. Where memory is wanting for a request, it has
 /// the 500 reply, takes no place, and all else stands as before; `NoMemory` comes where not even that reply could be
 /// had. It costs, for each add and each delete by unique key, the postings of that key and a look among the pending
 /// documents; for each commit a pass over what was added, a sort of its keys, a step for each 64 documents, and now
@@ -92,7 +100,8 @@ pub fn run_script<G: Gate>(
 {
     let _ = gate;
     let turns = turns(alloc, script.get())?;
-    let mut runner = Runner::new(alloc, config.schema.key_field())?;
+    let listened = is_acquired_first(config);
+    let mut runner = Runner::new(alloc, config.schema.key_field(), listened)?;
     for turn in &turns {
         let line = &script.get()[turn.index as usize];
         runner.step(alloc, config, turn.phase, line)?;

@@ -69,9 +69,9 @@ pub(crate) struct Runner {
 }
 
 impl Runner {
-    // Before the first request.
-    pub(crate) fn new(alloc: Global, key: FieldNo) -> Result<Runner, NoMemory>
-        ensures { IfOk result (IsFirst key) }
+    // Before the first request. Where the first searcher is listened to while it serves, its listeners have acquired it.
+    pub(crate) fn new(alloc: Global, key: FieldNo, listened: bool) -> Result<Runner, NoMemory>
+        ensures { IfOk result (IsFirst key listened) }
     {
         Ok(Runner {
             index: Index::new(alloc, key)?,
@@ -83,8 +83,8 @@ impl Runner {
                 opened: 0,
                 ended: 1,
                 registered: true,
-                acquired: 0,
-                from: None,
+                acquired: u32::from(listened),
+                from: if listened { Some((1, 0)) } else { None },
             },
         })
     }

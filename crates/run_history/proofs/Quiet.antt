@@ -101,13 +101,13 @@ module _ (U D L : Type 0) where
 
   -- ---- the start
 
-  pub start_legal : (l : Limits) (caller : ℕ) (u : U) (slot : ℕ) (d : D) → l.first_generation ≡ 1 → 1 ≤ l.last_generation → 0 < l.max_warming → slot < l.slots → LegalFrom {U = U} {D = D} {L = L} l (start l) (start_entries caller u slot d)
+  pub start_legal : (l : Limits) (caller : ℕ) (u : U) (slot : ℕ) (d : D) → l.first_generation ≡ 1 → 1 ≤ l.last_generation → 0 < l.max_warming → slot < l.slots → LegalFrom {U = U} {D = D} {L = L} l (start l) (start_entries caller u slot d false)
   start_legal l caller u slot d first last room below = (
     record { room = room; next = omega (arith, first); within = last; slot = below; free = refl },
     (record { warming = refl; greatest = tt }, tt),
   )
 
-  pub start_quiet : (l : Limits) (caller : ℕ) (u : U) (slot : ℕ) (d : D) → Quiet (fold (after {U = U} {D = D} {L = L}) (start l) (start_entries caller u slot d)) 1 0 slot
+  pub start_quiet : (l : Limits) (caller : ℕ) (u : U) (slot : ℕ) (d : D) → Quiet (fold (after {U = U} {D = D} {L = L}) (start l) (start_entries caller u slot d false)) 1 0 slot
   start_quiet l caller u slot d = record {
     current = refl;
     last = refl;

@@ -1,5 +1,5 @@
 -- The worked output's rows agree with a legal history, request by request.
-use Rattle.std.proofs.Common.{ℕ, List, [], ◌∷◌, ◌++◌, map, Some, None, refl, inl, arith}
+use Rattle.std.proofs.Common.{ℕ, List, [], ◌∷◌, ◌++◌, map, false, Some, None, refl, inl, arith}
 use Rattle.search_model.specs.Answer.{answer}
 use Rattle.search_model.specs.Live.{added, nothing}
 use Rattle.search_model.specs.Reply.{accepted, found}
@@ -26,7 +26,7 @@ abbrev query_told : Told
 query_told = record { call = call 3 query find_x; row = served 3 2 0 (document_a ∷ []) }
 
 abbrev stand_0 : Stand
-stand_0 = stand_at_start 0
+stand_0 = stand_at_start 0 false
 
 abbrev stand_1 : Stand
 stand_1 = stand_after_update stand_0 (added document_a)
@@ -35,7 +35,7 @@ abbrev stand_2 : Stand
 stand_2 = stand_after_opening stand_1 1
 
 abbrev history_0 : List Step
-history_0 = start_entries 1 (0, nothing) 0 []
+history_0 = start_entries 1 (0, nothing) 0 [] false
 
 abbrev history_1 : List Step
 history_1 = history_0 ++ update_entries 1 (1, added document_a)
@@ -44,7 +44,7 @@ abbrev history_2 : List Step
 history_2 = history_1 ++ opening_entries stand_1 1 (2, nothing) 1 (document_a ∷ [])
 
 abbrev lives_0 : List Life
-lives_0 = serial.first_life ∷ []
+lives_0 = serial.first_life false ∷ []
 
 abbrev lives_2 : List Life
 lives_2 = map (once_more 1) lives_0 ++ next_life history_1 stand_1 ∷ []
@@ -56,7 +56,7 @@ abbrev rows_2 : List Telling
 rows_2 = rows_1 ++ telling history_1 commit_told ∷ []
 
 start_serves : Serves read limits one_warming history_0 [] lives_0 stand_0
-start_serves = starts ℕ read limits one_warming 1 (0, nothing) 0 [] (record { first = refl; last = omega arith; room = omega arith; slot_below = omega arith; none = refl; from = refl })
+start_serves = starts ℕ read limits one_warming 1 (0, nothing) 0 [] (record { first = refl; last = omega arith; room = omega arith; slot_below = omega arith; none = refl })
 
 add_serves : Serves read limits one_warming history_1 rows_1 lives_0 stand_1
 add_serves = update_serves read limits one_warming history_0 [] lives_0 stand_0 start_serves add_told (1, added document_a) refl (adds_a 1) (record { place = refl; generation = refl; ticket = refl }) (shows 1 1 add (Some 2) None None accepted) tt

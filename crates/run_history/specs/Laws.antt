@@ -9,7 +9,7 @@ use Rattle.registry_machine.specs.Machine.{Limits}
 use Rattle.registry_machine.specs.Legal.{Legal}
 use Rattle.run_laws.specs.Rows.{Output}
 use Rattle.run_laws.specs.Calls.{Told}
-use Rattle.run_laws.specs.Lawful.{Lawful, Ascends}
+use Rattle.run_laws.specs.Lawful.{Lawful, Ascends, is_acquired_first}
 use Rattle.run_history.specs.Tellings.{Reading, Telling, Life}
 use Rattle.run_history.specs.Agreement.{Agrees, OutputAgrees}
 use Rattle.run_history.specs.Serial.{Stand, Serves, telling, idle, once_more, first_life, next_life, start_entries, update_entries, query_entries, opening_entries, stand_at_start, stand_after_update, stand_after_query, stand_after_opening, CanStart, IsIdleRow, IsUpdateRow, IsQueryRow, IsOpeningRow}
@@ -32,13 +32,13 @@ module _ (U D L : Type 0) where
 
   -- ---- a serial run, request by request
 
-  -- the first searcher's two entries are served with no rows yet
+  -- the first searcher's entries are served with no rows yet
   abbrev pub StartServes : Type 0
   StartServes =
       (r : Reading U D) (l : Limits) (c : Config) (caller : ℕ) (u : U) (slot : ℕ) (d : D) →
-      CanStart r l c slot d →
-      Serves {L = L} r l c (start_entries caller u slot d) []
-      (first_life ∷ []) (stand_at_start slot)
+      CanStart r l slot d →
+      Serves {L = L} r l c (start_entries caller u slot d (is_acquired_first c)) []
+      (first_life (is_acquired_first c) ∷ []) (stand_at_start slot (is_acquired_first c))
 
   -- a row that did nothing may be added
   abbrev pub IdleRowsServe : Type 0

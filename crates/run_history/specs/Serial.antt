@@ -1,5 +1,5 @@
 -- Histories of a serial run, between two requests, and what each kind of request adds.
-use Rattle.std.specs.Prelude.{◌≡◌, ◌≢◌, ℕ, ◌+◌, ◌<◌, ◌≤◌, List, [], ◌∷◌, length, ◌⊎◌, true, ◌==◌, if◌then◌else◌, Some, None, Ok, slice_get}
+use Rattle.std.specs.Prelude.{◌≡◌, ◌≢◌, ℕ, ◌+◌, ◌<◌, ◌≤◌, List, [], ◌∷◌, length, ◌⊎◌, Bool, true, false, ◌==◌, if◌then◌else◌, Option, Some, None, Ok, slice_get}
 use Rattle.std.specs.List.{AllByRecursion}
 use Rattle.doc_model.specs.Document.{Document}
 use Rattle.search_model.specs.Live.{Change, live, after}
@@ -13,7 +13,7 @@ use Rattle.registry_machine.specs.Legal.{Legal, state_of}
 use Rattle.registry_machine.specs.Places.{rank}
 use Rattle.run_laws.specs.Rows.{SearcherRow}
 use Rattle.run_laws.specs.Calls.{Call, Told}
-use Rattle.run_laws.specs.Lawful.{Shows, IsIdle, first_from}
+use Rattle.run_laws.specs.Lawful.{Shows, IsIdle, first_told}
 use Rattle.run_history.specs.Tellings.{Reading, Telling, Life, an_update, a_searcher, an_answer, wants, HasNumbers}
 use Rattle.run_history.specs.Agreement.{Agrees, ComesBefore, RepliesIdly, changes}
 
@@ -66,12 +66,29 @@ acquired_once_more g row = record row { acquired = if row.generation == g then r
 abbrev pub once_more : ℕ → Life → Life
 once_more g s = record s { row = acquired_once_more g s.row }
 
--- the first searcher, opened and registered before all else
-abbrev pub first_row : SearcherRow
-first_row = record { generation = 1; opened = 0; ended = 1; registered = true; acquired = 0; from = None }
+-- the acquires of the first searcher before all else: one, where its listeners have it acquired
+abbrev pub first_acquires : Bool → ℕ
+first_acquires true = 1
+first_acquires false = 0
 
-abbrev pub first_life : Life
-first_life = record { row = first_row; opened = 0; ended = 1; warmed = None }
+-- the first searcher, opened and registered before all else
+abbrev pub first_row : Bool → SearcherRow
+first_row listened = record {
+  generation = 1;
+  opened = 0;
+  ended = 1;
+  registered = true;
+  acquired = first_acquires listened;
+  from = first_told listened;
+}
+
+-- the index of the acquire by its listeners
+abbrev pub first_warmed : Bool → Option ℕ
+first_warmed true = Some 2
+first_warmed false = None
+
+abbrev pub first_life : Bool → Life
+first_life listened = record { row = first_row listened; opened = 0; ended = 1; warmed = first_warmed listened }
 
 -- one that was opened at a place, warmed from the current one and registered at once
 abbrev pub next_row : Stand → SearcherRow
@@ -89,8 +106,13 @@ next_life h s = record { row = next_row s; opened = length h; ended = length h +
 
 -- ---- entries
 
-abbrev pub start_entries : {U D L : Type 0} → ℕ → U → ℕ → D → List (Entry U D L)
-start_entries caller u slot d = Open caller u 1 slot d ∷ Finish 1 [] ∷ []
+-- the listeners of the first searcher acquire it, where they have to, and release it
+abbrev pub listening_entries : {U D L : Type 0} → Bool → ℕ → List (Entry U D L)
+listening_entries true caller = Acquire caller 1 0 ∷ Release caller 1 [] ∷ []
+listening_entries false caller = []
+
+abbrev pub start_entries : {U D L : Type 0} → ℕ → U → ℕ → D → Bool → List (Entry U D L)
+start_entries caller u slot d listened = Open caller u 1 slot d ∷ Finish 1 [] ∷ listening_entries listened caller
 
 abbrev pub update_entries : {U D L : Type 0} → ℕ → U → List (Entry U D L)
 update_entries caller u = Update caller u ∷ []
@@ -106,8 +128,15 @@ opening_entries s caller u slot d =
 
 -- ---- stands
 
-abbrev pub stand_at_start : ℕ → Stand
-stand_at_start slot = record { generation = 1; acquired = 0; slot = slot; places = 2; view = []; docs = [] }
+abbrev pub stand_at_start : ℕ → Bool → Stand
+stand_at_start slot listened = record {
+  generation = 1;
+  acquired = first_acquires listened;
+  slot = slot;
+  places = 2;
+  view = [];
+  docs = [];
+}
 
 abbrev pub stand_after_update : Stand → Change → Stand
 stand_after_update s change = record s { places = s.places + 1; docs = after s.docs change }
@@ -121,13 +150,12 @@ stand_after_opening s slot = record { generation = s.generation + 1; acquired = 
 -- ---- what a request's row must be
 
 -- the first searcher can be opened in the slot, and shows no documents
-pub record CanStart {U D : Type 0} (r : Reading U D) (l : Limits) (c : Config) (slot : ℕ) (d : D) : Type 0 where
+pub record CanStart {U D : Type 0} (r : Reading U D) (l : Limits) (slot : ℕ) (d : D) : Type 0 where
   pub first : l.first_generation ≡ 1
   pub last : 1 ≤ l.last_generation
   pub room : 0 < l.max_warming
   pub slot_below : slot < l.slots
   pub none : r.docs d ≡ []
-  pub from : first_from c ≡ None
 
 -- nothing was done: there was no memory, or the request does not read
 pub record IsIdleRow (c : Config) (t : Told) : Type 0 where

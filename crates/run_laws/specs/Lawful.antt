@@ -1,5 +1,5 @@
 -- When the rows of an output are lawful for a configuration and a script.
-use Rattle.std.specs.Prelude.{◌≡◌, ◌⊎◌, ℕ, ◌-◌, ◌<◌, ◌≤◌, List, [], ◌∷◌, ◌++◌, length, map, drop, count_by, Bool, true, false, ◌&&◌, ◌==◌, nat_le, if◌then◌else◌, Option, Some, None, IsSome, IfSome, Result, Ok, Err}
+use Rattle.std.specs.Prelude.{◌≡◌, ◌⊎◌, ℕ, ◌-◌, ◌<◌, ◌≤◌, List, [], ◌∷◌, ◌++◌, length, map, drop, count_by, Bool, true, false, ◌&&◌, ◌==◌, nat_le, not, if◌then◌else◌, Option, Some, None, IsSome, IfSome, Result, Ok, Err}
 use Rattle.std.specs.List.{filter_map, AllByRecursion, range_with_len}
 use Rattle.request_form.specs.declared.commit.CommitForm.{CommitForm}
 use Rattle.search_model.specs.Answer.{Asked, answer}
@@ -188,9 +188,17 @@ IsWarmedFrom ss g pin = (p : ℕ) × (g.opened ≤ p) × (p < g.ended) × (curre
 abbrev pub IsWarmed : Output → SearcherRow → Type 0
 IsWarmed o g = IsSome g.from × IfSome g.from (IsWarmedFrom o.searchers g)
 
--- the generation and the ticket that the first searcher tells: none, since no listener is built yet that could have it acquired
+-- the first searcher serves before its listeners have run, and they have it acquired first
+abbrev pub is_acquired_first : Config → Bool
+is_acquired_first c = c.cold && not (length c.first == 0)
+
+-- the generation and the ticket that the first searcher tells: its own, where its listeners have it acquired
+abbrev pub first_told : Bool → Option (ℕ × ℕ)
+first_told true = Some (1, 0)
+first_told false = None
+
 abbrev pub first_from : Config → Option (ℕ × ℕ)
-first_from c = None
+first_from c = first_told (is_acquired_first c)
 
 -- The first searcher tells what the configuration wants, and each later one was warmed as it must be.
 abbrev pub TellsWarmings : Config → Output → List SearcherRow → Type 0

@@ -72,6 +72,8 @@ one_warming = record {
   most_clauses = 1024;
   warmers = 1;
   df = None;
+  first = [];
+  fresh = [];
 }
 
 -- at most two searchers are warming

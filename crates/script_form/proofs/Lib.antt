@@ -8,4 +8,4 @@ pub mod Values
 pub mod Ranges
 pub mod ScriptRanges
 pub mod Decimals
-pub mod EmptyLists
+pub mod Listeners

@@ -1,23 +1,32 @@
 -- What the checks of a configuration give.
-use Rattle.std.proofs.Common.{◌≡◌, ℕ, ◌-◌, ◌≤◌, ◌&&◌, List, [], Bool, true, false, cond, length, take, Option, Some, None, option_map, option_and_then, ok_or, Result, Ok, Err, slice_get, nat_eq, refl, ap, subst, arith, lit≤, IsTrue, IsSomeAnd, codes, leb}
+use Rattle.std.proofs.Common.{◌≡◌, ℕ, ◌-◌, ◌≤◌, ◌&&◌, List, [], ◌∷◌, Bool, true, false, cond, length, take, Option, Some, None, option_map, option_and_then, ok_or, Result, Ok, Err, IfOk, slice_get, nat_eq, refl, ap, subst, arith, lit≤, IsTrue, IsSomeAnd, codes, leb}
 use Rattle.std.specs.Prelude.{⊤, MatchOption}
 use Rattle.std.specs.Cmp.{second_so}
-use Rattle.std.specs.List.{ends_with, filter_map}
+use Rattle.std.specs.List.{All, AllByRecursion, ends_with, filter_map}
+use Rattle.std.specs.Result.{result_ok}
 use Rattle.std.specs.Option.{option_map_or, option_or}
 use Rattle.std.specs.Str.Parse.{digits_value}
 use Rattle.std.proofs.lemmas.Bool.Decides.{nat_tests}
+use Rattle.std.proofs.lemmas.List.Elements.{All-from_recursion}
 use Rattle.serde_json.specs.Data.{Data}
-use Rattle.serde_json.specs.Find.{as_number, as_str, as_u64, get}
+use Rattle.serde_json.specs.Find.{as_array, as_number, as_str, as_u64, get}
 use Rattle.field_schema.proofs.FieldFaults.{read_is}
-use Rattle.field_schema.specs.ReadSchema.{field_data, field_of, first_fault, is_shaped, key_in, schema_of}
+use Rattle.field_schema.specs.ReadSchema.{field_data, field_of, first_fault, is_shaped, key_in, listed, schema_of}
 use Rattle.field_schema.specs.Schema.{Fields, IsSchema, field_named}
 use Rattle.field_schema.specs.declared.field.Field.{Field}
 use Rattle.field_schema.specs.declared.schema.SchemaFault.{SchemaFault}
 use Rattle.field_schema.specs.declared.schema.SchemaFault.TheVariants as schema_fault
+use Rattle.request_form.specs.Params.{params_of}
+use Rattle.request_form.specs.Ranges.{IsRequest}
+use Rattle.request_form.specs.Requests.{request_of}
+use Rattle.request_form.specs.declared.fault.RequestFault.{RequestFault}
+use Rattle.request_form.specs.declared.request.Defaults.{Defaults}
+use Rattle.request_form.specs.declared.request.Request.{Request}
+use Rattle.request_form.proofs.Fits.{request_fits}
 use Rattle.script_form.specs.Decimals.{decimal_within, is_decimal}
 use Rattle.script_form.specs.Lines.{config_text, has_marker}
 use Rattle.script_form.specs.Ranges.{IsConfig, IsIndexed, IsWarmSetting, IsWithin, ReadConfigIsWithinRanges}
-use Rattle.script_form.specs.ReadConfig.{cache_check, cache_setting, cache_size, check, config_in, config_of, default_cache, documents_check, failed, field_check, flag_check, indexed_field, is_object, member_or, no_warming, number_check, object_in, percentage, schema_check, schema_told, text_config, warm_setting, whole_within}
+use Rattle.script_form.specs.ReadConfig.{cache_check, cache_setting, cache_size, check, config_in, config_of, default_cache, documents_check, each_some, failed, field_check, flag_check, indexed_field, is_object, member_or, no_warming, number_check, object_in, percentage, request_in, requests_check, requests_in, schema_check, schema_told, text_config, warm_setting, whole_within}
 use Rattle.script_form.specs.Results.{result_then}
 use Rattle.script_form.specs.declared.config.Config.{Config}
 use Rattle.script_form.specs.declared.config.ConfigRefusal.{ConfigRefusal}
@@ -128,6 +137,30 @@ default_is s d df h =
     let p = map_some (λ n. Some n) (indexed_field s d) df h in
     subst (IsDefault s) p.2 (indexed_is s d p.0 p.1)
 
+-- ---- the requests of listeners
+
+ok_is : (r : Result Request RequestFault) (x : Request) → result_ok r ≡ Some x → IfOk r IsRequest → IsRequest x
+ok_is (Ok y) x h k = let e : y ≡ x = cc in subst IsRequest e k
+ok_is (Err e) x h k = absurd (cc)
+
+module _ (s : Fields) (defaults : Defaults) where
+  request_is : (v : Data) (r : Request) → request_in s defaults v ≡ Some r → IsRequest r
+  request_is v r h =
+      let p = and_then_some (λ text. result_ok (request_of s.list defaults (params_of text))) (as_str v) r h in
+      ok_is (request_of s.list defaults (params_of p.0)) r p.2 (request_fits s.list defaults (params_of p.0))
+
+  each_is : (vs : List Data) (rs : List Request) → each_some (request_in s defaults) vs ≡ Some rs → AllByRecursion IsRequest rs
+  each_is [] rs h = let e : [] ≡ rs = cc in subst (AllByRecursion IsRequest) e tt
+  each_is (v ∷ vs) rs h =
+      let p = and_then_some (λ y. option_map (λ ys. y ∷ ys) (each_some (request_in s defaults) vs)) (request_in s defaults v) rs h in
+      let q = map_some (λ ys. p.0 ∷ ys) (each_some (request_in s defaults) vs) rs p.2 in
+      subst (AllByRecursion IsRequest) q.2 (request_is v p.0 p.1, each_is vs q.0 q.1)
+
+  listed_are : (d : Data) (rs : List Request) → requests_in s defaults d ≡ Some rs → AllByRecursion IsRequest rs
+  listed_are d rs h =
+      let p = and_then_some (λ texts. each_some (request_in s defaults) (listed texts)) (as_array d) rs h in
+      each_is (listed p.0) rs p.2
+
 -- ---- the schema
 
 abbrev keyed : List Field → ℕ → Fields
@@ -169,9 +202,12 @@ documents_is at name d n h = checked (IsWithin 1 4096) 512 cache_size at name d 
 field_is : (at : ℕ) (name : List ℕ) (s : Fields) (d : Data) (df : Option ℕ) → field_check at name s d ≡ Ok df → IsDefault s df
 field_is at name s d df h = checked (IsDefault s) None (λ v. option_map Some (indexed_field s v)) at name d df tt (default_is s) h
 
-listened : (b : Bool) (config c : Config) (e : ConfigRefusal) → cond b (Ok config) (Err e) ≡ Ok c → config ≡ c
-listened true config c e h = cc
-listened false config c e h = absurd (cc)
+requests_are : (at : ℕ) (name : List ℕ) (s : Fields) (defaults : Defaults) (d : Data) (rs : List Request) → requests_check at name s defaults d ≡ Ok rs → All IsRequest rs
+requests_are at name s defaults d rs h =
+    All-from_recursion IsRequest rs (checked (AllByRecursion IsRequest) [] (requests_in s defaults) at name d rs tt (listed_are s defaults) h)
+
+made : (config c : Config) → ◌≡◌ {A = Result Config ConfigRefusal} (Ok config) (Ok c) → config ≡ c
+made config c h = cc
 
 config_in_is : (d : Data) (c : Config) → config_in d ≡ Ok c → IsConfig c
 config_in_is d c h =
@@ -187,9 +223,12 @@ config_in_is d c h =
     let most_clauses = then_ok (number_check 12 (codes "maxBooleanClauses") 1024 65535 d) _ c cold.2 in
     let warmers = then_ok (number_check 13 (codes "warmers") 1 4 d) _ c most_clauses.2 in
     let df = then_ok (field_check 14 (codes "df") schema.0 d) _ c warmers.2 in
+    let defaults : Defaults = record { df = df.0; most = most_clauses.0 } in
+    let first = then_ok (requests_check 15 (codes "firstSearcher") schema.0 defaults d) _ c df.2 in
+    let fresh = then_ok (requests_check 16 (codes "newSearcher") schema.0 defaults d) _ c first.2 in
     let filter_is = cached_is 5 (codes "filterCache") d filters.0 filters.1 in
     let result_is = cached_is 6 (codes "queryResultCache") d results.0 results.1 in
-    subst IsConfig (listened _ _ c _ df.2) (record {
+    subst IsConfig (made _ c fresh.2) (record {
       schema = schema_member 4 (codes "schema") (get (codes "schema") d) _ schema.0 schema.1;
       filter_size = filter_is.0;
       filter_warm = filter_is.1;
@@ -202,6 +241,8 @@ config_in_is d c h =
       most_clauses = number_is 12 (codes "maxBooleanClauses") 1024 65535 d most_clauses.0 (lit≤ tt, lit≤ tt) most_clauses.1;
       warmers = number_is 13 (codes "warmers") 1 4 d warmers.0 (lit≤ tt, lit≤ tt) warmers.1;
       df = field_is 14 (codes "df") schema.0 d df.0 df.1;
+      first = requests_are 15 (codes "firstSearcher") schema.0 defaults d first.0 first.1;
+      fresh = requests_are 16 (codes "newSearcher") schema.0 defaults d fresh.0 fresh.1;
     })
 
 text_config_is : (o : Option Data) (e : ConfigRefusal) (c : Config) → option_map_or config_in o (Err e) ≡ Ok c → IsConfig c

@@ -5,16 +5,15 @@ use Rattle.std.specs.Option.{option_map_or}
 use Rattle.std.specs.Str.{is_utf8}
 use Rattle.std.proofs.lemmas.List.Elements.{All-cons, All-nil}
 use Rattle.field_schema.specs.Bytes.{bytes_eq}
-use Rattle.script_form.specs.Decimals.{are_digits, decimal_within, is_decimal}
+use Rattle.script_form.specs.Decimals.{are_digits, decimal_within}
 use Rattle.script_form.specs.Ranges.{HasClient, IsScript, IsWithin, ReadFrontIsScript, ReadScriptIsScript}
-use Rattle.script_form.specs.ReadScript.{body_part, client_of, client_part, front_from, front_of, in_front, is_nothing, request_of, verb_part, what_in, what_of, whole_script, with_body}
+use Rattle.script_form.specs.ReadScript.{body_part, client_of, client_part, front_from, front_of, in_front, is_nothing, request_of, verb_part, what_in, what_of, with_body}
 use Rattle.script_form.specs.Results.{result_then}
 use Rattle.script_form.specs.declared.script.Front.{Front}
 use Rattle.script_form.specs.declared.script.Line.{Line}
 use Rattle.script_form.specs.declared.script.LineFault.{LineFault}
 use Rattle.script_form.specs.declared.script.LineName.{LineName}
 use Rattle.script_form.specs.declared.script.LineName.TheVariants as name
-use Rattle.script_form.specs.declared.script.ScriptRefusal.{ScriptRefusal}
 use Rattle.script_form.specs.declared.script.ScriptRefusal.TheVariants as refusal
 use Rattle.script_form.specs.declared.script.What.{What}
 use Rattle.script_form.specs.declared.script.What.TheVariants as what

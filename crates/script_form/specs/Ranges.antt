@@ -3,6 +3,7 @@ use Rattle.std.specs.Prelude.{◌≡◌, ℕ, ◌≤◌, List, length, map, Ok, 
 use Rattle.std.specs.Bool.{MatchBool}
 use Rattle.std.specs.List.{All, range_with_len}
 use Rattle.field_schema.specs.Schema.{Fields, IsSchema}
+use Rattle.request_form.specs.Ranges.{IsRequest}
 use Rattle.script_form.specs.declared.config.Config.{Config}
 use Rattle.script_form.specs.declared.config.WarmSetting.{WarmSetting}
 use Rattle.script_form.specs.declared.script.Line.{Line}
@@ -36,6 +37,8 @@ pub record IsConfig (c : Config) : Type 0 where
   pub most_clauses : IsWithin 1 65535 c.most_clauses
   pub warmers : IsWithin 1 4 c.warmers
   pub df : MatchOption c.df ⊤ (IsIndexed c.schema)
+  pub first : All IsRequest c.first
+  pub fresh : All IsRequest c.fresh
 
 -- a configuration that some input begins with keeps them
 abbrev pub ReadConfigIsWithinRanges : Type 0

@@ -1,15 +1,20 @@
 -- Which configuration the input begins with, and the first of its checks that fails.
-use Rattle.std.specs.Prelude.{ℕ, ◌-◌, List, length, take, Bool, true, false, ◌&&◌, nat_le, nat_eq, if◌then◌else◌, Option, Some, None, is_some, option_and_then, option_map, ok_or, Result, Ok, Err, codes, slice_get}
+use Rattle.std.specs.Prelude.{ℕ, ◌-◌, List, [], ◌∷◌, length, take, Bool, true, false, ◌&&◌, nat_le, nat_eq, if◌then◌else◌, Option, Some, None, is_some, option_and_then, option_map, ok_or, Result, Ok, Err, codes, slice_get}
 use Rattle.std.specs.List.{ends_with}
 use Rattle.std.specs.Option.{option_map_or, option_or}
+use Rattle.std.specs.Result.{result_ok}
 use Rattle.std.specs.Str.{is_utf8}
-use Rattle.serde_json.specs.Data.{Data, null, boolean, number, string, array, object, no_items, item}
-use Rattle.serde_json.specs.Find.{get, as_bool, as_number, as_object, as_str, as_u64}
+use Rattle.serde_json.specs.Data.{Data}
+use Rattle.serde_json.specs.Find.{get, as_array, as_bool, as_number, as_object, as_str, as_u64}
 use Rattle.serde_json.specs.Read.{read}
 use Rattle.field_schema.specs.Schema.{Fields, field_named}
-use Rattle.field_schema.specs.ReadSchema.{schema_of}
+use Rattle.field_schema.specs.ReadSchema.{schema_of, listed}
 use Rattle.field_schema.specs.declared.schema.SchemaFault.{SchemaFault}
 use Rattle.field_schema.specs.declared.schema.SchemaFault.TheVariants as schema_fault
+use Rattle.request_form.specs.declared.request.Defaults.{Defaults}
+use Rattle.request_form.specs.declared.request.Request.{Request}
+use Rattle.request_form.specs.Params.{params_of}
+use Rattle.request_form.specs.Requests.{request_of}
 use Rattle.script_form.specs.declared.config.Config.{Config}
 use Rattle.script_form.specs.declared.config.WarmSetting.{WarmSetting}
 use Rattle.script_form.specs.declared.config.ConfigRefusal.{ConfigRefusal}
@@ -77,6 +82,21 @@ indexed_field s d =
     option_and_then (λ n. if option_map_or (λ f. f.indexed) (slice_get s.list n) false then Some n else None)
     (option_and_then (λ name. field_named name s.list) (as_str d))
 
+-- the request that a text reads to, where it reads
+abbrev pub request_in : Fields → Defaults → Data → Option Request
+request_in s defaults d =
+    option_and_then (λ text. result_ok (request_of s.list defaults (params_of text))) (as_str d)
+
+-- what each of a list gives, where each gives something
+abbrev pub each_some : {A B : Type 0} → (A → Option B) → List A → Option (List B)
+each_some f [] = Some []
+each_some f (x ∷ xs) = option_and_then (λ y. option_map (λ ys. y ∷ ys) (each_some f xs)) (f x)
+
+-- the requests of a list of texts, where each reads
+abbrev pub requests_in : Fields → Defaults → Data → Option (List Request)
+requests_in s defaults d =
+    option_and_then (λ texts. each_some (request_in s defaults) (listed texts)) (as_array d)
+
 -- ---- the checks, each by its number and the name of its member
 
 -- what a member reads to, or what is meant where it is missing; else the check fails
@@ -120,24 +140,9 @@ schema_told at name (Err fault) = Err (schema_failed at name fault)
 abbrev pub schema_check : ℕ → List ℕ → Data → Result Fields ConfigRefusal
 schema_check at name d = option_map_or (λ v. schema_told at name (schema_of v)) (get name d) (Err (failed at name))
 
--- an empty list
-abbrev pub is_empty_list : Data → Bool
-is_empty_list null = false
-is_empty_list (boolean b) = false
-is_empty_list (number n) = false
-is_empty_list (string s) = false
-is_empty_list (array no_items) = true
-is_empty_list (array (item e es)) = false
-is_empty_list (object ms) = false
-
--- no listener of that name
-abbrev pub has_no_listener : List ℕ → Data → Bool
-has_no_listener name d = option_map_or is_empty_list (get name d) true
-
--- listeners are not built so far: the configuration, where there is none
-abbrev pub without_listeners : Config → Data → Result Config ConfigRefusal
-without_listeners config d =
-    if has_no_listener (codes "firstSearcher") d && has_no_listener (codes "newSearcher") d then Ok config else Err (failed 0 (codes "NotBuilt"))
+-- the requests of a listener, each of which reads; none where it is missing
+abbrev pub requests_check : ℕ → List ℕ → Fields → Defaults → Data → Result (List Request) ConfigRefusal
+requests_check at name s defaults d = check at name [] (requests_in s defaults) d
 
 -- the configuration of an object, or the first of the checks from 3 on that fails
 abbrev pub config_in : Data → Result Config ConfigRefusal
@@ -154,7 +159,9 @@ config_in d =
     result_then (number_check 12 (codes "maxBooleanClauses") 1024 65535 d) (λ most_clauses.
     result_then (number_check 13 (codes "warmers") 1 4 d) (λ warmers.
     result_then (field_check 14 (codes "df") schema d) (λ df.
-    without_listeners (record {
+    result_then (requests_check 15 (codes "firstSearcher") schema (record { df = df; most = most_clauses }) d) (λ first.
+    result_then (requests_check 16 (codes "newSearcher") schema (record { df = df; most = most_clauses }) d) (λ fresh.
+    Ok (record {
       schema = schema;
       filter_size = filters.size;
       filter_warm = filters.warm;
@@ -168,7 +175,9 @@ config_in d =
       most_clauses = most_clauses;
       warmers = warmers;
       df = df;
-    }) d))))))))))))
+      first = first;
+      fresh = fresh;
+    })))))))))))))))
 
 -- the value that a text is, where it is UTF-8 and reads as JSON
 abbrev pub value_in : List ℕ → Option Data

@@ -3,15 +3,17 @@ ghost use Rattle.serde_json.specs.View.{view};
 ghost use Rattle.field_schema.specs.Outcome.{Gives};
 ghost use Rattle.script_form.specs.Lines.{config_text, IsScriptOf};
 ghost use Rattle.script_form.specs.Ranges.{IsConfig};
-ghost use Rattle.script_form.specs.ReadConfig.{config_in, config_of, failed, is_no_memory, object_in, text_config, value_in, without_listeners as built_part};
+ghost use Rattle.script_form.specs.ReadConfig.{config_in, config_of, failed, is_no_memory, object_in, text_config, value_in};
 ghost use Rattle.script_form.specs.Results.{result_map};
 
 use crate::lines::{behind_marker, is_marker, next_line};
 use crate::member::{
-    has_no_listener, read_cache, read_documents, read_field, read_flag, read_number, read_schema,
+    read_cache, read_documents, read_field, read_flag, read_number, read_requests, read_schema,
 };
 use field_schema::{FieldNo, NoMemory, Schema, Text};
+use request_form::{Defaults, Request};
 use serde_json::Value;
+use sqlite_items::Items;
 use std::alloc::{AllocFailed, Global};
 
 /// How many entries of an old cache are regenerated: a number, or a percentage of its length.
@@ -20,6 +22,9 @@ pub struct WarmSetting {
     pub number: u32,
     pub percent: bool,
 }
+
+/// A list of requests. Contracts see it as a list.
+pub type Requests = Items<Request>;
 
 /// What the configuration says.
 #[derive(Debug, Drop)]
@@ -47,15 +52,19 @@ pub struct Config {
     pub warmers: u32,
     /// The field of values that name none.
     pub df: Option<FieldNo>,
+    /// The requests that run on the first searcher.
+    pub first: Requests,
+    /// The requests that run on each later searcher while it is warming.
+    pub fresh: Requests,
 }
 
 /// The first check of the configuration that fails, and what it looked at.
 #[derive(Debug, Drop)]
 pub struct ConfigFault {
-    /// The check's number, 1 to 14; 0 where all of these hold and there are listeners, which are not built so far.
+    /// The check's number, 1 to 16.
     pub at: u32,
-    /// The name of what it looked at: the member's name, `%%`, `config` for the whole, the name that a schema's fault
-    /// has (`uniqueKey` where there is none), or `NotBuilt`.
+    /// The name of what it looked at: the member's name, `%%`, `config` for the whole, or the name that a schema's
+    /// fault has (`uniqueKey` where there is none).
     pub name: Text,
 }
 
@@ -113,11 +122,12 @@ impl<T: Drop> From<AllocFailed<T>> for ConfigRefusal {
 /// 12. `maxBooleanClauses` is 1 to 65,535; missing, it is 1,024.
 /// 13. `warmers` is 1 to 4; missing, it is 1.
 /// 14. `df` is the name of an indexed field; missing, there is none.
+/// 15. `firstSearcher` is a list of texts, each of which reads as the parameters of a query; missing, it is empty.
+/// 16. `newSearcher` is the same.
 ///
-/// Listeners are not built so far: where all these hold and `firstSearcher` or `newSearcher` is there and is not an
-/// empty list, the fault has the number 0 and the name `NotBuilt`. `NoMemory` comes only where memory is wanting. The
-/// cost is linear in what stands before the script, but for the members of an object, each of which is found by the
-/// logarithm of their number.
+/// `NoMemory` comes only where memory is wanting. The cost is linear in what stands before the script, but for the
+/// members of an object, each of which is found by the logarithm of their number, and for the filters of a listener's
+/// request, each of which is looked up among those before it.
 #[tactic(auto, unfolding(crate::specs::ReadConfig::config_of))]
 pub fn read_config(alloc: Global, bytes: &[u8]) -> Result<(Config, usize), ConfigRefusal>
     ensures config { Gives is_no_memory (result_map (λ r. r.0) result) (config_of bytes.now) }
@@ -202,7 +212,13 @@ fn read_members(alloc: Global, members: &Value) -> Result<Config, ConfigRefusal>
     let most_clauses = read_number(alloc, members, 12, "maxBooleanClauses", 1_024, 65_535)?;
     let warmers = read_number(alloc, members, 13, "warmers", 1, 4)?;
     let df = read_field(alloc, members, 14, "df", &schema)?;
-    let config = Config {
+    let defaults = Defaults {
+        df,
+        most: most_clauses,
+    };
+    let first = read_requests(alloc, members, 15, "firstSearcher", &schema, &defaults)?;
+    let fresh = read_requests(alloc, members, 16, "newSearcher", &schema, &defaults)?;
+    Ok(Config {
         schema,
         filter_size: filters.size,
         filter_warm: filters.warm,
@@ -216,23 +232,9 @@ fn read_members(alloc: Global, members: &Value) -> Result<Config, ConfigRefusal>
         most_clauses,
         warmers,
         df,
-    };
-    without_listeners(alloc, members, config)
-}
-
-// The configuration, where no listeners are there.
-fn without_listeners(
-    alloc: Global,
-    members: &Value,
-    config: Config,
-) -> Result<Config, ConfigRefusal>
-    ensures { Gives is_no_memory result (built_part config (view members.now)) }
-{
-    if has_no_listener(members, "firstSearcher") && has_no_listener(members, "newSearcher") {
-        Ok(config)
-    } else {
-        refused(alloc, 0, "NotBuilt")
-    }
+        first,
+        fresh,
+    })
 }
 
 // What a check found, or its fault.

@@ -16,7 +16,7 @@ mod script;
 #[cfg(test)]
 mod tests;
 
-pub use config::{Config, ConfigFault, ConfigRefusal, WarmSetting, read_config};
+pub use config::{Config, ConfigFault, ConfigRefusal, Requests, WarmSetting, read_config};
 pub use lines::too_large;
 pub use script::{
     Front, Line, LineFault, LineName, Script, ScriptRefusal, What, read_front, read_script,

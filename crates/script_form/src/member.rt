@@ -1,12 +1,14 @@
-ghost use Rattle.std.specs.Prelude.{◌≡◌};
+ghost use Rattle.std.specs.Prelude.{◌≡◌, IfOk, map};
 ghost use Rattle.serde_json.specs.View.{view};
 ghost use Rattle.field_schema.specs.Outcome.{Gives};
-ghost use Rattle.script_form.specs.ReadConfig.{cache_check, cache_setting as setting_of, cache_size as size_of, documents_check, field_check, flag_check, has_no_listener as is_without, indexed_field as indexed_of, is_empty_list as is_nothing_listed, is_no_memory, number_check, percentage as percentage_of, schema_check, warm_setting as warm_of, whole_within as number_within};
+ghost use Rattle.script_form.specs.ReadConfig.{cache_check, cache_setting as setting_of, cache_size as size_of, documents_check, field_check, flag_check, each_some, indexed_field as indexed_of, is_no_memory, number_check, percentage as percentage_of, request_in as request_of, requests_check, requests_in as requests_of, schema_check, warm_setting as warm_of, whole_within as number_within};
 
-use crate::config::{ConfigFault, ConfigRefusal, WarmSetting, checked, refused};
+use crate::config::{ConfigFault, ConfigRefusal, Requests, WarmSetting, checked, refused};
 use crate::decimal::decimal_within;
-use field_schema::{FieldNo, Schema, SchemaFault};
+use field_schema::{FieldNo, NoMemory, Schema, SchemaFault};
+use request_form::{Defaults, Request, RequestFault};
 use serde_json::Value;
+use sqlite_items::Items;
 use std::alloc::Global;
 
 // The most entries of a cache, and the most that are regenerated.
@@ -139,23 +141,76 @@ pub(crate) fn read_field(
     checked(alloc, at, name, field)
 }
 
-// Whether no listener of that name is there.
-pub(crate) fn has_no_listener(members: &Value, name: &str) -> bool
-    ensures { result ≡ is_without name.now (view members.now) }
+// A member that is a list of texts, each of which reads as a request, or the fault of its check.
+pub(crate) fn read_requests(
+    alloc: Global,
+    members: &Value,
+    at: u32,
+    name: &str,
+    schema: &Schema,
+    defaults: &Defaults,
+) -> Result<Requests, ConfigRefusal>
+    ensures { Gives is_no_memory result
+        (requests_check at name.now schema.now defaults.now (view members.now)) }
 {
-    match members.get(name) {
-        Some(listeners) => is_empty_list(listeners),
-        None => true,
+    let requests = match members.get(name) {
+        Some(value) => requests_in(alloc, value, schema, defaults)?,
+        None => Some(Items::from_vec(Vec::new(alloc))),
+    };
+    checked(alloc, at, name, requests)
+}
+
+// The requests of a list of texts, where each reads.
+fn requests_in(
+    alloc: Global,
+    value: &Value,
+    schema: &Schema,
+    defaults: &Defaults,
+) -> Result<Option<Requests>, NoMemory>
+    ensures { IfOk result (λ o. o ≡ requests_of schema.now defaults.now (view value.now)) }
+{
+    match value.as_array() {
+        Some(texts) => each_request(alloc, texts.as_slice(), schema, defaults),
+        None => Ok(None),
     }
 }
 
-// Whether a value is a list of nothing.
-fn is_empty_list(value: &Value) -> bool
-    ensures { result ≡ is_nothing_listed (view value.now) }
+// The requests of texts, where each reads.
+fn each_request(
+    alloc: Global,
+    texts: &[Value],
+    schema: &Schema,
+    defaults: &Defaults,
+) -> Result<Option<Requests>, NoMemory>
+    ensures { IfOk result (λ o. o
+        ≡ each_some (request_of schema.now defaults.now) (map view texts.now)) }
 {
-    match value.as_array() {
-        Some(list) => list.is_empty(),
-        None => false,
+    let mut requests = Vec::new(alloc);
+    for text in texts {
+        match request_in(alloc, text, schema, defaults)? {
+            Some(request) => requests.push(request)?,
+            None => return Ok(None),
+        }
+    }
+    Ok(Some(Items::from_vec(requests)))
+}
+
+// The request that a text reads to, where it reads.
+fn request_in(
+    alloc: Global,
+    value: &Value,
+    schema: &Schema,
+    defaults: &Defaults,
+) -> Result<Option<Request>, NoMemory>
+    ensures { IfOk result (λ o. o ≡ request_of schema.now defaults.now (view value.now)) }
+{
+    let Some(text) = value.as_str() else {
+        return Ok(None);
+    };
+    match Request::read(alloc, schema, defaults, text) {
+        Ok(request) => Ok(Some(request)),
+        Err(RequestFault::NoMemory) => Err(NoMemory),
+        Err(_) => Ok(None),
     }
 }
 

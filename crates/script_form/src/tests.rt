@@ -10,7 +10,8 @@ const FRONT: &str = r#"{"schema":{"fields":[{"name":"id","type":"string"},
 
 // Members behind the schema, and what the configuration then says: the sizes and the warmings of the two caches, the
 // size of the third, the window and the most ids, the searchers that may be warming, whether the first one serves
-// cold, the most clauses, the warmers, and the default field; or the check that fails and its name.
+// cold, the most clauses, the warmers, the default field, and how many requests the listeners have; or the check that
+// fails and its name.
 const MEMBERS: &str = r#" | 512 0 512 0 512 20 200 1 false 1024 1 None
 ,"x":null,"size":1,"Version":2,"clients":0 | 512 0 512 0 512 20 200 1 false 1024 1 None
 ,"df":"t","warmers":4,"maxBooleanClauses":65535,"useColdSearcher":true,"maxWarmingSearchers":4 | 512 0 512 0 512 20 200 4 true 65535 4 Some(3)
@@ -93,10 +94,18 @@ const MEMBERS: &str = r#" | 512 0 512 0 512 20 200 1 false 1024 1 None
 ,"df":3 | 14 df
 ,"df":null,"firstSearcher":["q=*:*"] | 14 df
 ,"firstSearcher":[],"newSearcher":[] | 512 0 512 0 512 20 200 1 false 1024 1 None
-,"firstSearcher":["q=*:*"] | 0 NotBuilt
-,"newSearcher":["q=*:*"] | 0 NotBuilt
-,"newSearcher":null | 0 NotBuilt
-,"firstSearcher":{},"newSearcher":[] | 0 NotBuilt"#;
+,"df":"t","firstSearcher":["q=apple",""],"newSearcher":["q=*:*&fq=cat:x&sort=cat+asc"] | 512 0 512 0 512 20 200 1 false 1024 1 Some(3) 2 first 1 fresh
+,"maxBooleanClauses":1,"newSearcher":["q=cat:x"] | 512 0 512 0 512 20 200 1 false 1 1 None 0 first 1 fresh
+,"maxBooleanClauses":1,"firstSearcher":["q=cat:x+cat:y"] | 15 firstSearcher
+,"firstSearcher":["q=apple"] | 15 firstSearcher
+,"firstSearcher":["q=*:*","rows=-1"],"newSearcher":0 | 15 firstSearcher
+,"firstSearcher":["q=*:*",1] | 15 firstSearcher
+,"firstSearcher":"q=*:*" | 15 firstSearcher
+,"firstSearcher":null | 15 firstSearcher
+,"firstSearcher":{},"newSearcher":[] | 15 firstSearcher
+,"newSearcher":["q=p:1"] | 16 newSearcher
+,"newSearcher":[["q=*:*"]] | 16 newSearcher
+,"newSearcher":null | 16 newSearcher"#;
 
 // How many of an old cache's entries are regenerated.
 fn shown_warm(alloc: Global, warm: WarmSetting) -> Result<String, Fail> {
@@ -104,12 +113,23 @@ fn shown_warm(alloc: Global, warm: WarmSetting) -> Result<String, Fail> {
     Ok(format!(in alloc; "{}{sign}", warm.number)?)
 }
 
+// How many requests the listeners have, where there are some.
+fn shown_listeners(alloc: Global, config: &Config) -> Result<String, Fail> {
+    let first = config.first.as_slice().len();
+    let fresh = config.fresh.as_slice().len();
+    if first + fresh == 0 {
+        return Ok(String::new(alloc));
+    }
+    Ok(format!(in alloc; " {first} first {fresh} fresh")?)
+}
+
 // What a configuration says, in the order of its checks.
 fn shown_config(alloc: Global, config: &Config) -> Result<String, Fail> {
     let filters = shown_warm(alloc, config.filter_warm)?;
     let results = shown_warm(alloc, config.result_warm)?;
+    let listeners = shown_listeners(alloc, config)?;
     Ok(format!(in alloc;
-        "{} {filters} {} {results} {} {} {} {} {} {} {} {:?}",
+        "{} {filters} {} {results} {} {} {} {} {} {} {} {:?}{listeners}",
         config.filter_size,
         config.result_size,
         config.document_size,

@@ -1,4 +1,4 @@
-use Rattle.std.proofs.Common.{◌≡◌, ◌<◌, ◌≤◌, IfOk, length, map, take, get_or, ℕ, ◌+◌, ◌-◌, List, [], ◌∷◌, ◌++◌, Option, Some, Result, Ok, Err, ap, sym, subst, ◌∙◌, arith}
+use Rattle.std.proofs.Common.{◌≡◌, ◌<◌, ◌≤◌, IfOk, length, map, take, get_or, ℕ, ◌+◌, ◌-◌, List, [], ◌∷◌, ◌++◌, Bool, true, false, Option, Some, Result, Ok, Err, ap, sym, subst, ◌∙◌, arith}
 use Rattle.std.specs.List.Sorted.{IsNonDecreasingBy, IsPermutation}
 use Rattle.std.proofs.lemmas.List.{map-append, take_all, take_more}
 use Rattle.std.proofs.lemmas.Result.{IfOk-weaker}
@@ -14,7 +14,8 @@ use Rattle.client_runner.specs.RunOrder.{call_at}
 use Rattle.client_runner.specs.Runs.{FollowsIf, Follows}
 use Rattle.client_runner.specs.declared.runner.Runner.{Runner}
 use Rattle.client_runner.specs.Rooms.{IsFirst, IsReady}
-use Rattle.client_runner.specs.Standings.{Standing, searchers_of, standing}
+use Rattle.client_runner.specs.Standings.{Standing, first, searchers_of, standing}
+use Rattle.run_history.specs.Serial.{first_acquires}
 use Rattle.client_runner.proofs.InTurn.{AreServed, are_served, asks_for, index_within, comes_last}
 use Rattle.client_runner.proofs.Ended.{Served, none_served, one_more_served, ended, lawful_by}
 use Rattle.client_runner.proofs.run.run_script.Goals as goal
@@ -33,13 +34,18 @@ less_ready c m n r le ready = record {
   key = ready.key;
 }
 
-first_ready : (c : Config) (r : Runner) → IsFirst c.schema.key r → IsReady c 100000 r
-first_ready c r is =
+at_most_one : (listened : Bool) → first_acquires listened ≤ 1
+at_most_one true = omega arith
+at_most_one false = omega arith
+
+first_ready : (c : Config) (listened : Bool) (r : Runner) → IsFirst c.schema.key listened r → IsReady c 100000 r
+first_ready c listened r is =
     let place : r.place ≡ 2 = ap (λ (s : Standing). s.place) is.standing_is in
     let generation : r.current.generation ≡ 1 = ap (λ (s : Standing). s.current.generation) is.standing_is in
-    let count : r.current.acquired ≡ 0 = ap (λ (s : Standing). s.current.acquired) is.standing_is in
+    let count : r.current.acquired ≡ first_acquires listened = ap (λ (s : Standing). s.current.acquired) is.standing_is in
+    let few : first_acquires listened ≤ 1 = at_most_one listened in
     record {
-      room = record { place = omega (arith, place); generation = omega (arith, generation); acquired = omega (arith, count); numbers = omega (arith, is.numbers) };
+      room = record { place = omega (arith, place); generation = omega (arith, generation); acquired = omega (arith, count, few); numbers = omega (arith, is.numbers) };
       key = is.key_is;
     }
 
@@ -49,8 +55,10 @@ all_ok (Err y) P Q R S f p q r = tt
 
 pub loop-turn-init : goal.loop-turn-init
 loop-turn-init g c = record {
-  served = subst (Served c.args.config.now []) (sym c.in_ok-runner.ensures.standing_is) (none_served c.args.config.now c.requires.warming);
-  ready = first_ready c.args.config.now c.in_ok-runner.runner (subst (λ k. IsFirst k c.in_ok-runner.runner) c.key_field.ensures.number c.in_ok-runner.ensures);
+  served = subst (Served c.args.config.now []) (sym c.in_ok-runner.ensures.standing_is)
+      (subst (λ b. Served c.args.config.now [] (first b)) (sym c.is_acquired_first.ensures) (none_served c.args.config.now c.requires.warming));
+  ready = first_ready c.args.config.now c.is_acquired_first.result c.in_ok-runner.runner
+      (subst (λ k. IsFirst k c.is_acquired_first.result c.in_ok-runner.runner) c.key_field.ensures.number c.in_ok-runner.ensures);
 }
 
 pub bounds-get-turn : goal.bounds-get-turn

@@ -1,3 +1,4 @@
+use Rattle.std.proofs.Common.{refl}
 use Rattle.std.proofs.lemmas.Result.{err_from_is_err_and}
 use Rattle.script_form.proofs.Checks.{stops}
 use Rattle.script_form.proofs.config.read_members.Goals as goal
@@ -42,5 +43,15 @@ returns-in_err-df c =
     let p = err_from_is_err_and c.from_residual-in_err-df.result c.from_residual-in_err-df.ensures.1 in
     rw (p.1, p.2, c.in_ok-read_number.ensures, c.in_ok-schema.ensures, c.in_ok-filters.ensures, c.in_ok-results.ensures, c.in_ok-documents.ensures, c.in_ok-window.ensures, c.in_ok-most_docs.ensures, c.in_ok-max_warming.ensures, c.in_ok-cold.ensures, c.in_ok-most_clauses.ensures, c.in_ok-warmers.ensures) (stops c.in_err-df.field-0.0 _ _ c.in_err-df.ensures)
 
+pub returns-in_err-first : goal.returns-in_err-first
+returns-in_err-first c =
+    let p = err_from_is_err_and c.from_residual-in_err-first.result c.from_residual-in_err-first.ensures.1 in
+    rw (p.1, p.2, c.in_ok-read_number.ensures, c.in_ok-schema.ensures, c.in_ok-filters.ensures, c.in_ok-results.ensures, c.in_ok-documents.ensures, c.in_ok-window.ensures, c.in_ok-most_docs.ensures, c.in_ok-max_warming.ensures, c.in_ok-cold.ensures, c.in_ok-most_clauses.ensures, c.in_ok-warmers.ensures, c.in_ok-df.ensures) (stops c.in_err-first.field-0.0 _ _ c.in_err-first.ensures)
+
+pub returns-in_err-fresh : goal.returns-in_err-fresh
+returns-in_err-fresh c =
+    let p = err_from_is_err_and c.from_residual-in_err-fresh.result c.from_residual-in_err-fresh.ensures.1 in
+    rw (p.1, p.2, c.in_ok-read_number.ensures, c.in_ok-schema.ensures, c.in_ok-filters.ensures, c.in_ok-results.ensures, c.in_ok-documents.ensures, c.in_ok-window.ensures, c.in_ok-most_docs.ensures, c.in_ok-max_warming.ensures, c.in_ok-cold.ensures, c.in_ok-most_clauses.ensures, c.in_ok-warmers.ensures, c.in_ok-df.ensures, c.in_ok-first.ensures) (stops c.in_err-fresh.field-0.0 _ _ c.in_err-fresh.ensures)
+
 pub returns : goal.returns
-returns c = rw (c.in_ok-read_number.ensures, c.in_ok-schema.ensures, c.in_ok-filters.ensures, c.in_ok-results.ensures, c.in_ok-documents.ensures, c.in_ok-window.ensures, c.in_ok-most_docs.ensures, c.in_ok-max_warming.ensures, c.in_ok-cold.ensures, c.in_ok-most_clauses.ensures, c.in_ok-warmers.ensures, c.in_ok-df.ensures) c.without_listeners.ensures
+returns c = rw (c.in_ok-read_number.ensures, c.in_ok-schema.ensures, c.in_ok-filters.ensures, c.in_ok-results.ensures, c.in_ok-documents.ensures, c.in_ok-window.ensures, c.in_ok-most_docs.ensures, c.in_ok-max_warming.ensures, c.in_ok-cold.ensures, c.in_ok-most_clauses.ensures, c.in_ok-warmers.ensures, c.in_ok-df.ensures, c.in_ok-first.ensures, c.in_ok-fresh.ensures) refl
