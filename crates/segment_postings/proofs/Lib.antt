@@ -9,3 +9,4 @@ pub mod ViewLoops
 pub mod TermsOfViews
 pub mod DocsOfViews
 pub mod Merging
+pub mod Packed

@@ -28,48 +28,17 @@ around (x ∷ y ∷ xs) (suc i) a b h e f =
     ap (λ zs. x ∷ zs) (around (y ∷ xs) i a b (omega arith) e (f ∙ ap (λ n. get_or (x ∷ y ∷ xs) n b) one))
     ∙ ap (λ n. x ∷ (take i (y ∷ xs) ++ a ∷ b ∷ drop n (x ∷ y ∷ xs))) (sym two)
 
-All-left : {A : Type 0} (P : A → Type 0) (xs ys : List A) → All P (xs ++ ys) → All P xs
+pub All-left : {A : Type 0} (P : A → Type 0) (xs ys : List A) → All P (xs ++ ys) → All P xs
 All-left P [] ys h = λ k d l. absurd (omega arith)
 All-left P (x ∷ xs) ys h = All-cons P x xs (All-head P x (xs ++ ys) h) (All-left P xs ys (All-tail P x (xs ++ ys) h))
 
-All-right : {A : Type 0} (P : A → Type 0) (xs ys : List A) → All P (xs ++ ys) → All P ys
+pub All-right : {A : Type 0} (P : A → Type 0) (xs ys : List A) → All P (xs ++ ys) → All P ys
 All-right P [] ys h = h
 All-right P (x ∷ xs) ys h = All-right P xs ys (All-tail P x (xs ++ ys) h)
 
--- one part in place of two
-pub merges : (front back : List Part) (a b p : Part) (old parts : List Part) → old ≡ front ++ a ∷ b ∷ back → parts ≡ front ++ p ∷ back → p.docs ≡ a.docs ++ b.docs → IsPart p → Merges old parts
-merges front back a b p old parts e f same lawful =
-    let docs : all_docs (front ++ p ∷ back) ≡ all_docs (front ++ a ∷ b ∷ back) =
-    flat_map-append (λ q. q.docs) front (p ∷ back)
-    ∙ ap (λ ds. all_docs front ++ (ds ++ all_docs back)) same
-    ∙ ap (λ ds. all_docs front ++ ds) (append_assoc a.docs b.docs (all_docs back))
-    ∙ sym (flat_map-append (λ q. q.docs) front (a ∷ b ∷ back)) in
-    subst (λ o. Merges o parts) (sym e) (subst (Merges (front ++ a ∷ b ∷ back)) (sym f) (record {
-      docs = docs;
-      filled = λ h.
-          let P = λ (q : Part). 0 < length q.docs in
-          let rest : All P (a ∷ b ∷ back) = All-right P front (a ∷ b ∷ back) h in
-          let first : 0 < length a.docs = All-head P a (b ∷ back) rest in
-          let whole = ap length same ∙ length-append a.docs b.docs in
-          let here : 0 < length p.docs = omega arith in
-          All-append P front (p ∷ back) (All-left P front (a ∷ b ∷ back) h) (All-cons P p back here (All-tail P b back (All-tail P a (b ∷ back) rest)));
-      lawful = λ h.
-          All-append IsPart front (p ∷ back) (All-left IsPart front (a ∷ b ∷ back) h) (All-cons IsPart p back lawful (All-tail IsPart b back (All-tail IsPart a (b ∷ back) (All-right IsPart front (a ∷ b ∷ back) h))));
-      fewer = omega (arith, length-append front (p ∷ back), length-append front (a ∷ b ∷ back));
-    }))
-
-pub merged_view : (live : Numbers) (size : ℕ) (old parts : List Part) → IsView live size old → Merges old parts → IsView live size parts
-merged_view live size old parts is m = record {
-  size = is.size ∙ ap length (sym m.docs);
-  most = is.most;
-  live = is.live;
-  filled = m.filled is.filled;
-  lawful = m.lawful is.lawful;
-}
-
-pub pair_most : (old front back : List Part) (a b : Part) → old ≡ front ++ a ∷ b ∷ back → length (all_docs old) ≤ MAX_DOCS → length a.docs + length b.docs ≤ MAX_DOCS
-pair_most old front back a b e most =
-    let whole = ap (λ ps. length (all_docs ps)) e ∙ ap length (flat_map-append (λ q. q.docs) front (a ∷ b ∷ back)) ∙ length-append (all_docs front) (all_docs (a ∷ b ∷ back)) in
-    let pair = length-append a.docs (b.docs ++ all_docs back) in
-    let last = length-append b.docs (all_docs back) in
-    omega (arith, whole, pair, last, most)
+pub two_docs : (old front back : List Part) (a b : Part) → old ≡ front ++ a ∷ b ∷ back → all_docs old ≡ (all_docs front ++ (a.docs ++ b.docs)) ++ all_docs back
+two_docs old front back a b e =
+    ap all_docs e
+    ∙ flat_map-append (λ q. q.docs) front (a ∷ b ∷ back)
+    ∙ ap (λ ds. all_docs front ++ ds) (sym (append_assoc a.docs b.docs (all_docs back)))
+    ∙ sym (append_assoc (all_docs front) (a.docs ++ b.docs) (all_docs back))

@@ -20,7 +20,7 @@ use Rattle.segment_postings.proofs.KeyOrder.{filter_twice}
 
 -- ---- the numbers
 
-Rises-lower : (low from high : ℕ) (xs : List ℕ) → low ≤ from → Rises from high xs → Rises low high xs
+pub Rises-lower : (low from high : ℕ) (xs : List ℕ) → low ≤ from → Rises from high xs → Rises low high xs
 Rises-lower low from high [] h r = tt
 Rises-lower low from high (x ∷ xs) h r = (omega (arith, r.0), r.1, r.2)
 
@@ -38,7 +38,7 @@ Rises-kept p n high (d ∷ ds) h =
     ]
 
 -- a number before or behind all is none of them
-outside : (low high : ℕ) (xs : List ℕ) (q : ℕ) → Rises low high xs → (q < low) ⊎ (high ≤ q) → is_in xs q ≡ false
+pub outside : (low high : ℕ) (xs : List ℕ) (q : ℕ) → Rises low high xs → (q < low) ⊎ (high ≤ q) → is_in xs q ≡ false
 outside low high [] q r h = refl
 outside low high (x ∷ xs) q r h =
     let apart : x ≡ q → ⊥ = λ e. elim h [ inl t ↦ omega (arith, r.0) | inr t ↦ omega (arith, r.1) ] in

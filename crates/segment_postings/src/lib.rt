@@ -2,6 +2,7 @@
 
 mod gathering;
 mod occurrence;
+mod packing;
 mod posting;
 mod probe;
 mod reads;

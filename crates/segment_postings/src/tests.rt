@@ -31,6 +31,11 @@ const NEWER: [&str; 2] = [
 // The second of the older documents, which a newer one replaces.
 const REPLACED: DocNo = 1;
 
+// Two segments, the second document is deleted; then all are.
+const FIRST_TWO: [&str; 2] = [r#"{"id":"a"}"#, r#"{"id":"b"}"#];
+
+const LAST_TWO: [&str; 2] = [r#"{"id":"c"}"#, r#"{"id":"d"}"#];
+
 // A field and a key; the documents with it, each as id and category, with the places of a token; and three terms from
 // the key on.
 const ROWS: [(FieldNo, &str, &str, &str); 8] = [
@@ -163,6 +168,47 @@ fn check_rows(rt: &impl Abort, alloc: Global, view: &View) -> Result<(), Fail> {
     Ok(())
 }
 
+// The live documents below a number, each as its number and id.
+fn tell_live(rt: &impl Abort, alloc: Global, view: &View, end: DocNo) -> Result<String, Fail> {
+    let mut told = String::new(alloc);
+    let mut probe = Probe::new(view);
+    for doc in 0..end {
+        if is_live(&probe, doc) {
+            told.push_str(format!(in alloc; "{}", doc)?.as_str())?;
+            tell_doc(rt, alloc, &mut probe, doc, &mut told)?;
+            told.push_str(";")?;
+        }
+    }
+    Ok(told)
+}
+
+fn merged(rt: &impl Abort, alloc: Global, view: &View) -> Result<View, Fail> {
+    let two = view.segments() == 2;
+    assert!(rt; two);
+    assert_eq!(rt; (view.held(0), view.held(1)), (2, 2));
+    Ok(view.merge(alloc, 0)?)
+}
+
+// Two segments as one, without a deleted document; and as none, where all are deleted.
+fn check_merges(rt: &impl Abort, alloc: Global) -> Result<(), Fail> {
+    let schema = Schema::read(alloc, &Value::from_str(alloc, SHOP)?)?;
+    let none = DocSet::new(alloc);
+    let first = docs_of(alloc, &schema, &FIRST_TWO)?;
+    let last = docs_of(alloc, &schema, &LAST_TWO)?;
+    let view = extended(rt, alloc, &View::empty(alloc)?, first, &none)?;
+    let second = DocSet::from_sorted(alloc, &[1])?;
+    let view = extended(rt, alloc, &view, last, &second)?;
+    assert_eq!(rt; tell_live(rt, alloc, &view, 5)?.as_str(), "0a;2c;3d;");
+    let one = merged(rt, alloc, &view)?;
+    assert_eq!(rt; tell_live(rt, alloc, &one, 5)?.as_str(), "0a;1c;2d;");
+    assert_eq!(rt; (one.size(), one.segments()), (3, 1));
+    let all = DocSet::from_sorted(alloc, &[0, 2, 3])?;
+    let gone = extended(rt, alloc, &view, Vec::new(alloc), &all)?;
+    let gone = merged(rt, alloc, &gone)?;
+    assert_eq!(rt; (gone.len(), gone.size(), gone.segments()), (0, 0, 0));
+    Ok(())
+}
+
 // A view of two segments, one document of which is replaced, and the same with the segments as one.
 #[test]
 fn views_tell_their_live_documents(rt: HostRuntime) -> Result<(), Fail> {
@@ -176,6 +222,7 @@ fn views_tell_their_live_documents(rt: HostRuntime) -> Result<(), Fail> {
     let two = view.segments() == 2;
     assert!(rt; two);
     let merged = view.merge(alloc, 0)?;
-    assert_eq!(rt; (merged.len(), merged.segments()), (3, 1));
-    check_rows(&rt, alloc, &merged)
+    assert_eq!(rt; (merged.len(), merged.size(), merged.segments()), (3, 3, 1));
+    check_rows(&rt, alloc, &merged)?;
+    check_merges(&rt, alloc)
 }

@@ -1,4 +1,4 @@
-ghost use Rattle.std.specs.Prelude.{◌≡◌, ℕ, ◌+◌, ◌<◌, ◌≤◌, ◌++◌, IfOk, OnOk, Some, true, map, length};
+ghost use Rattle.std.specs.Prelude.{◌≡◌, ℕ, ◌+◌, ◌<◌, ◌≤◌, ◌++◌, IfOk, OnOk, Some, true, map, length, slice_get};
 ghost use Rattle.std.specs.Arc.{arc_value};
 ghost use Rattle.std.specs.FinSet as set;
 ghost use Rattle.std.specs.List.{range_with_len};
@@ -6,8 +6,9 @@ ghost use Rattle.doc_sets.specs.declared.TheConstants.{MAX_DOCS};
 ghost use Rattle.segment_postings.specs.Numbered.{IsNumbered, IsLive, no_docs, numbers, docs, extended, doc_at};
 ghost use Rattle.segment_postings.specs.Postings.{postings_of};
 ghost use Rattle.segment_postings.specs.Terms.{AreTerms, terms_from};
-ghost use Rattle.segment_postings.specs.Views.{terms_of, all_docs, AddsNumbers, AddsPart, Merges};
+ghost use Rattle.segment_postings.specs.Views.{terms_of, all_docs, AddsNumbers, AddsPart, Merges, Packs, IsPacked};
 
+use crate::packing::{Packing, live_docs, moved};
 use crate::posting::Posting;
 use crate::segment::Segment;
 use doc_model::Doc;
@@ -18,7 +19,8 @@ use std::marker::Model;
 use std::sync::Arc;
 
 /// Segments, and which of their documents are live. Contracts see the live documents in index order, each with its
-/// number, and the size, which is greater than each number; and the keys in each field of each segment.
+/// number, and the size, which is greater than each number; and of each segment the keys in each field and how many
+/// documents it holds.
 ///
 /// A view is never changed: others are made of it, and share its segments and documents.
 #[derive(Drop)]
@@ -74,24 +76,26 @@ impl View {
         Ok(View { parts, live, size })
     }
 
-    /// The view with the segments `at` and `at + 1` as one. Its live documents and their order are the same, and its
-    /// size is no greater.
+    /// The view with the live documents of the segments `at` and `at + 1` in one segment, or in none where there are none.
+    /// The live documents and their order are the same, those of the two segments have numbers one after another, and
+    /// those behind them move down.
     ///
-    /// Fails only for want of memory. It costs a pass over the two segments' documents and a sort of their keys, and a
-    /// step for each 64 numbers of the view.
+    /// Fails only for want of memory. It costs a pass over the two segments' documents and a sort of the keys of those
+    /// that are live, and a step for each 64 numbers of the view, or for each number where one of the documents is deleted.
     pub fn merge(&self, alloc: Global, at: u32) -> Result<View, NoMemory>
         requires { at + 1 < length self.now.keys }
         ensures docs { IfOk result (λ v. docs v.seen ≡ docs self.now.seen) }
         ensures size { IfOk result (λ v. v.seen.size ≤ self.now.seen.size) }
         ensures segments { IfOk result (λ v. length v.keys < length self.now.keys) }
+        ensures packed { IfOk result (λ v. IsPacked self.now at v.seen) }
     {
-        let live = copy_of(alloc, &self.live)?;
-        let parts = merged(alloc, self.parts.as_slice(), at as usize)?;
-        Ok(View {
-            parts,
-            live,
-            size: self.size,
-        })
+        let parts = self.parts.as_slice();
+        let at = at as usize;
+        let (packing, docs) = packed(alloc, &self.live, parts, at)?;
+        let live = moved(alloc, &self.live, self.size, packing)?;
+        let parts = merged(alloc, parts, at, docs)?;
+        let size = self.size - (packing.count - packing.kept);
+        Ok(View { parts, live, size })
     }
 
     /// How many live documents there are. It costs nothing.
@@ -115,6 +119,16 @@ impl View {
     {
         let parts = self.parts.as_slice();
         parts.len() as u32
+    }
+
+    /// How many documents a segment holds, deleted ones too. It costs nothing.
+    pub fn held(&self, at: u32) -> u32
+        requires { at < length self.now.keys }
+        ensures { slice_get self.now.held at ≡ Some result }
+    {
+        let parts = self.parts.as_slice();
+        let docs = parts[at as usize].docs();
+        docs.len() as u32
     }
 
     // The numbers of the live documents.
@@ -236,39 +250,54 @@ fn with_added(
     Ok(all)
 }
 
-// The same set.
-fn copy_of(alloc: Global, set: &DocSet) -> Result<DocSet, NoMemory>
-    ensures { IfOk result (λ s. s ≡ set.now) }
+// How many documents segments hold.
+fn count(parts: &[Arc<Segment>]) -> u32
+    requires { length (all_docs (map arc_value parts.now)) ≤ MAX_DOCS }
+    ensures { result ≡ length (all_docs (map arc_value parts.now)) }
 {
-    let Ok(copy) = set.or(alloc, &DocSet::new(alloc)) else {
-        return Err(NoMemory);
-    };
-    Ok(copy)
+    let mut total = 0;
+    for part in parts {
+        total += part.docs().len() as u32;
+    }
+    total
 }
 
-// The same segments, two neighbours as one.
-fn merged(alloc: Global, parts: &[Arc<Segment>], at: usize) -> Result<Vec<Arc<Segment>>, NoMemory>
+// The live documents of two neighbours, and how they take the places of all.
+fn packed(
+    alloc: Global,
+    live: &DocSet,
+    parts: &[Arc<Segment>],
+    at: usize,
+) -> Result<(Packing, Vec<Arc<Doc>>), NoMemory>
     requires both { at + 1 < length parts.now }
     requires most { length (all_docs (map arc_value parts.now)) ≤ MAX_DOCS }
-    ensures { IfOk result (λ v. Merges (map arc_value parts.now) (map arc_value v.items)) }
+    ensures { IfOk result (λ r. Packs live.now (map arc_value parts.now) at (map arc_value r.1.items) r.0) }
 {
-    let first = &parts[at];
-    let second = &parts[at + 1];
-    let docs = both(alloc, first.docs(), second.docs())?;
-    let part = Segment::new(alloc, docs)?;
-    let mut all = shared(alloc, &parts[..at])?;
-    all.push(Arc::new(alloc, part)?)?;
-    share(&mut all, &parts[at + 2..])?;
-    Ok(all)
+    let first = parts[at].docs();
+    let second = parts[at + 1].docs();
+    let start = count(&parts[..at]);
+    let docs = live_docs(alloc, live, start, first, second)?;
+    let packing = Packing {
+        start,
+        count: (first.len() + second.len()) as u32,
+        kept: docs.len() as u32,
+    };
+    Ok((packing, docs))
 }
 
-// The documents of two lists, shared.
-fn both(alloc: Global, first: &[Arc<Doc>], second: &[Arc<Doc>]) -> Result<Vec<Arc<Doc>>, NoMemory>
-    ensures { IfOk result (λ v. map arc_value v.items ≡ map arc_value first.now ++ map arc_value second.now) }
+// The same segments, two neighbours as one of the documents that are kept of them, where there are any.
+fn merged(
+    alloc: Global,
+    parts: &[Arc<Segment>],
+    at: usize,
+    kept: Vec<Arc<Doc>>,
+) -> Result<Vec<Arc<Segment>>, NoMemory>
+    requires both { at + 1 < length parts.now }
+    requires most { length kept.items ≤ MAX_DOCS }
+    ensures { IfOk result (λ v. Merges (map arc_value parts.now) at (map arc_value kept.items) (map arc_value v.items)) }
 {
-    let mut all = Vec::new(alloc);
-    share(&mut all, first)?;
-    share(&mut all, second)?;
+    let mut all = with_added(alloc, &parts[..at], kept)?;
+    share(&mut all, &parts[at + 2..])?;
     Ok(all)
 }
 

@@ -1,0 +1,148 @@
+//! What stays of segments that are merged: their live documents, with numbers one after another.
+ghost use Rattle.std.specs.Prelude.{◌≡◌, ℕ, ◌+◌, ◌-◌, ◌<◌, ◌≤◌, ◌∷◌, [], ◌++◌, true, IfOk, OnOk, map, filter, length, if◌then◌else◌};
+ghost use Rattle.std.specs.Arc.{arc_value};
+ghost use Rattle.std.specs.FinSet as set;
+ghost use Rattle.std.specs.List.{range_with_len};
+ghost use Rattle.doc_sets.specs.declared.TheConstants.{MAX_DOCS};
+ghost use Rattle.segment_postings.specs.Views.{live_from, is_moved, Moves, IsPacking};
+
+use doc_model::Doc;
+use doc_sets::{DocNo, DocSet, MAX_DOCS};
+use field_schema::NoMemory;
+use std::alloc::Global;
+use std::sync::Arc;
+
+/// So many documents, all live, in place of those from a number on.
+#[derive(Clone, Copy, Debug)]
+pub(crate) struct Packing {
+    pub start: u32,
+    pub count: u32,
+    pub kept: u32,
+}
+
+/// The live documents of two neighbouring segments, of which the first document has the number `start`.
+pub(crate) fn live_docs(
+    alloc: Global,
+    live: &DocSet,
+    start: DocNo,
+    first: &[Arc<Doc>],
+    second: &[Arc<Doc>],
+) -> Result<Vec<Arc<Doc>>, NoMemory>
+    requires { start + (length first.now + length second.now) ≤ MAX_DOCS }
+    ensures { IfOk result (λ v. map arc_value v.items ≡
+        live_from live.now start (map arc_value first.now ++ map arc_value second.now)) }
+{
+    let mut all = Vec::new(alloc);
+    add_live(&mut all, live, start, first)?;
+    add_live(&mut all, live, start + first.len() as u32, second)?;
+    Ok(all)
+}
+
+// Adds the live ones of documents of which the first has the number `base`, shared.
+fn add_live(
+    all: &mut Vec<Arc<Doc>>,
+    live: &DocSet,
+    base: DocNo,
+    docs: &[Arc<Doc>],
+) -> Result<(), NoMemory>
+    requires { base + length docs.now ≤ MAX_DOCS }
+    ensures { OnOk result (map arc_value all.new.items ≡
+        map arc_value all.old.items ++ live_from live.now base (map arc_value docs.now)) }
+{
+    let mut number = base;
+    for doc in docs {
+        add_where(all, live.has(number), doc)?;
+        number += 1;
+    }
+    Ok(())
+}
+
+// Adds a document, shared, where it is wanted.
+fn add_where(all: &mut Vec<Arc<Doc>>, wanted: bool, doc: &Arc<Doc>) -> Result<(), NoMemory>
+    ensures { OnOk result (map arc_value all.new.items ≡
+        map arc_value all.old.items ++ (if wanted then arc_value doc.now ∷ [] else [])) }
+{
+    if wanted {
+        all.push(Arc::clone(doc)?)?;
+    }
+    Ok(())
+}
+
+/// The live numbers below `size` as documents are packed.
+///
+/// It costs a step for each 64 of the numbers, or for each where a document goes.
+pub(crate) fn moved(
+    alloc: Global,
+    live: &DocSet,
+    size: u32,
+    packing: Packing,
+) -> Result<DocSet, NoMemory>
+    requires { IsPacking live.now size packing }
+    ensures { IfOk result (λ s. Moves live.now packing s) }
+{
+    if packing.kept == packing.count {
+        return copy_of(alloc, live);
+    }
+    let numbers = moved_numbers(alloc, live, size, packing)?;
+    let Ok(all) = DocSet::from_sorted(alloc, numbers.as_slice()) else {
+        return Err(NoMemory);
+    };
+    Ok(all)
+}
+
+// The same set.
+fn copy_of(alloc: Global, set: &DocSet) -> Result<DocSet, NoMemory>
+    ensures { IfOk result (λ s. s ≡ set.now) }
+{
+    let Ok(copy) = set.or(alloc, &DocSet::new(alloc)) else {
+        return Err(NoMemory);
+    };
+    Ok(copy)
+}
+
+// The live numbers as documents are packed, ascending.
+fn moved_numbers(
+    alloc: Global,
+    live: &DocSet,
+    size: u32,
+    packing: Packing,
+) -> Result<Vec<u32>, NoMemory>
+    requires { IsPacking live.now size packing }
+    ensures { IfOk result (λ v. v.items ≡ filter (is_moved live.now packing)
+        (range_with_len 0 (size - (packing.count - packing.kept)))) }
+{
+    let mut numbers = Vec::new(alloc);
+    let left = size - (packing.count - packing.kept);
+    for number in 0..left {
+        let wanted = is_moved(live, packing, number);
+        add_number(&mut numbers, wanted, number)?;
+    }
+    Ok(numbers)
+}
+
+// Whether a number is live as documents are packed.
+fn is_moved(live: &DocSet, packing: Packing, number: u32) -> bool
+    requires most { number + (packing.count - packing.kept) < MAX_DOCS }
+    requires start { packing.start + packing.count ≤ MAX_DOCS }
+    requires few { packing.kept ≤ packing.count }
+    ensures { result ≡ is_moved live.now packing number }
+{
+    if number < packing.start {
+        return live.has(number);
+    }
+    if number < packing.start + packing.kept {
+        return true;
+    }
+    live.has(number + (packing.count - packing.kept))
+}
+
+// Adds a number where it is wanted.
+fn add_number(numbers: &mut Vec<u32>, wanted: bool, number: u32) -> Result<(), NoMemory>
+    ensures { OnOk result (numbers.new.items ≡
+        numbers.old.items ++ (if wanted then number ∷ [] else [])) }
+{
+    if wanted {
+        numbers.push(number)?;
+    }
+    Ok(())
+}
