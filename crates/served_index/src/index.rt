@@ -29,8 +29,6 @@ pub struct Index {
     // They stand in the order in which they went, and one may stand twice.
     gone: Vec<DocNo>,
     pending: Pending,
-    // How many documents were added in each segment of the view. They only tell which segments to merge.
-    sizes: Vec<u32>,
     key: FieldNo,
 }
 
@@ -62,7 +60,6 @@ impl Index {
             current: View::empty(alloc)?,
             gone: Vec::new(alloc),
             pending: Pending::new(alloc),
-            sizes: Vec::new(alloc),
             key,
         })
     }
@@ -151,7 +148,8 @@ impl Index {
     ///
     /// Fails only for want of memory, and then all is as before. It costs a pass over the documents added since the
     /// last opening and a sort of their keys, a sort of the numbers that are gone, a step for each 64 numbers, and
-    /// where there are more than ten segments the merge of neighbours.
+    /// where there are more than ten segments the merge of neighbours, by which each document moves some tens of times
+    /// over all openings.
     pub fn open(&mut self, alloc: Global) -> Result<(), NoMemory>
         ensures ok { OnOk result (self.new.served ≡ self.old.docs) }
         ensures err { OnErr result (self.new.served ≡ self.old.served) }
@@ -161,16 +159,11 @@ impl Index {
     {
         let gone = set_of(alloc, &self.gone)?;
         let added = self.pending.shared(alloc)?;
-        let mut sizes = self.sizes.to_vec(alloc)?;
-        if !added.is_empty() {
-            sizes.push(added.len() as u32)?;
-        }
         let extended = self.current.extend(alloc, added, &gone)?;
-        let current = settled(alloc, extended, &mut sizes)?;
+        let current = settled(alloc, extended)?;
         self.current = current;
         self.gone = Vec::new(alloc);
         self.pending = Pending::new(alloc);
-        self.sizes = sizes;
         Ok(())
     }
 
@@ -200,46 +193,40 @@ impl Index {
     }
 }
 
-// The view with neighbours merged until there are no more segments than ten, at the first pair with the fewest
-// documents each time.
-fn settled(alloc: Global, view: View, sizes: &mut Vec<u32>) -> Result<View, NoMemory>
+// The view with neighbours merged until there are no more segments than ten.
+fn settled(alloc: Global, view: View) -> Result<View, NoMemory>
     ensures docs { IfOk result (λ v. docs v.seen ≡ docs view.seen) }
     ensures size { IfOk result (λ v. v.seen.size ≤ view.seen.size) }
 {
     let mut settled = view;
     while settled.segments() > MOST_SEGMENTS {
-        let at = smallest_pair(sizes.as_slice()).min(settled.segments() - 2);
+        let at = pair_to_merge(&settled);
         settled = settled.merge(alloc, at)?;
-        join_sizes(sizes, at);
     }
     Ok(settled)
 }
 
-// The place of the first pair of neighbours with the least sum, or 0 where there is no pair.
-fn smallest_pair(sizes: &[u32]) -> u32 {
-    let mut place = 0;
-    let mut least = u64::MAX;
-    let mut last: Option<u32> = None;
-    let mut at: u32 = 0;
-    for &size in sizes {
-        if let Some(last) = last {
-            let sum = u64::from(last) + u64::from(size);
-            if sum < least {
-                least = sum;
-                place = at;
-            }
-            at = at.saturating_add(1);
+// The first pair of neighbours whose earlier segment is the fewest times as large as the later one. So sizes fall from
+// segment to segment, and a merge is seldom of a large one.
+fn pair_to_merge(view: &View) -> u32
+    requires two { 1 < length view.now.keys }
+    ensures pair { result + 1 < length view.now.keys }
+{
+    let mut best = 0;
+    for at in 1..view.segments() - 1 {
+        if is_less_steep(view, at, best) {
+            best = at;
         }
-        last = Some(size);
     }
-    place
+    best
 }
 
-// Adds the size behind a place to that at the place, where both are there.
-fn join_sizes(sizes: &mut Vec<u32>, at: u32) {
-    let at = at as usize;
-    if at + 1 < sizes.len() {
-        let moved = sizes.remove(at + 1);
-        sizes[at] = sizes[at].saturating_add(moved);
-    }
+// Whether the segment at a place is fewer times as large as the next one than it is so at another place.
+fn is_less_steep(view: &View, at: u32, other: u32) -> bool
+    requires at { at + 1 < length view.now.keys }
+    requires other { other + 1 < length view.now.keys }
+{
+    let here = u64::from(view.held(at)) * u64::from(view.held(other + 1));
+    let there = u64::from(view.held(other)) * u64::from(view.held(at + 1));
+    here < there
 }
