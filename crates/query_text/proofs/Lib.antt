@@ -4,6 +4,7 @@ pub mod Joined
 pub mod Leaves
 pub mod Names
 pub mod Parts
+pub mod Prefixes
 pub mod Printed
 pub mod RangeParts
 pub mod Readables

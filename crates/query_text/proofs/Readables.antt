@@ -1,5 +1,5 @@
 -- Each readable query is read back.
-use Rattle.std.proofs.Common.{◌≡◌, ◌≤◌, ◌∷◌, [], ℕ, suc, List, length, refl, arith}
+use Rattle.std.proofs.Common.{◌≡◌, [], ℕ, List, arith}
 use Rattle.field_schema.specs.declared.field.Field.{Field}
 use Rattle.query_tree.specs.declared.query.Query.{Query}
 use Rattle.query_tree.specs.declared.query.Query.TheVariants as query
@@ -9,10 +9,11 @@ use Rattle.query_text.specs.declared.op.Op.TheVariants as op
 use Rattle.query_text.specs.Clauses.{joined}
 use Rattle.query_text.specs.Printing.{part_text, printed}
 use Rattle.query_text.specs.PrintLaws.{PrintsBack}
-use Rattle.query_text.specs.Readable.{IsLeaf, every, exists, term, words, range, AreReadable, no_more, one_more, group, IsReadable, alone, blank, bool, ReadablePrintsBack}
+use Rattle.query_text.specs.Readable.{IsLeaf, every, exists, term, words, prefix, range, AreReadable, no_more, one_more, group, IsReadable, alone, blank, bool, ReadablePrintsBack}
 use Rattle.query_text.proofs.Parts.{top_along}
 use Rattle.query_text.proofs.Printed.{Part, part_named, spelled_from, star_value}
 use Rattle.query_text.proofs.Tops.{part_all, part_term, part_words, top_part}
+use Rattle.query_text.proofs.Prefixes.{part_prefix}
 use Rattle.query_text.proofs.RangeParts.{part_range}
 use Rattle.query_text.proofs.Groups.{AllParts}
 use Rattle.query_text.proofs.Joined.{all_clauses, joined_all, sorted_all}
@@ -24,6 +25,7 @@ module _ (fields : List Field) (most : ℕ) where
   leaf_part d (exists f named) = part_named fields most f (query.Exists f) (spelled_from fields f named) (star_value fields most f) d
   leaf_part d (term f k named whole key) = part_term fields most d f k named whole key
   leaf_part d (words f ws named text utf8 same) = part_words fields most d f ws named text utf8 same
+  leaf_part d (prefix f text named h) = part_prefix fields most f text h d named
   leaf_part d (range f a b named h k some) = part_range fields most f d a b named h k some
 
   -- a query without parts stands alone as it stands among others
@@ -32,6 +34,7 @@ module _ (fields : List Field) (most : ℕ) where
   leaf_alone (exists f named) = top_along fields (query.Exists f) (node.Exists f) (views.outs-Exists f)
   leaf_alone (term f k named whole key) = top_along fields (query.Term f k) (node.Term f k) (views.outs-Term f k)
   leaf_alone (words f ws named text utf8 same) = top_along fields (query.Words f ws) (node.Words f ws) (views.outs-Words f ws)
+  leaf_alone (prefix f text named h) = top_along fields (query.Prefix f text) (node.Prefix f text) (views.outs-Prefix f text)
   leaf_alone (range f a b named h k some) = top_along fields (query.Range f a b) (node.Range f a b) (views.outs-Range f a b)
 
   all_parts : {d : ℕ} {qs : List Query} → AreReadable fields most d qs → AllParts fields most d qs

@@ -11,7 +11,7 @@ use Rattle.query_tree.specs.declared.query.Query.TheVariants as query
 use Rattle.query_tree.specs.declared.query.Query.TheViews as parts
 use Rattle.query_text.specs.Readings.{kind_at, is_text}
 use Rattle.query_text.specs.Printing.{spaced}
-use Rattle.query_text.specs.PrintLaws.{PrintsBack, is_single, IsNamed, IsKey}
+use Rattle.query_text.specs.PrintLaws.{PrintsBack, is_single, IsNamed, IsKey, IsPrefix}
 
 abbrev pub is_open : End → Bool
 is_open end.Open = true
@@ -28,6 +28,7 @@ pub data IsLeaf (fields : List Field) : Query → Type 0 where
   exists : (f : ℕ) → IsNamed fields f → IsLeaf fields (query.Exists f)
   term : (f : ℕ) (k : Key) → IsNamed fields f → is_text (kind_at fields f) ≡ false → IsKey fields f k → IsLeaf fields (query.Term f k)
   words : (f : ℕ) (ws : List (List ℕ)) → IsNamed fields f → is_text (kind_at fields f) ≡ true → IsUtf8 (spaced ws) → tokens (spaced ws) ≡ ws → IsLeaf fields (query.Words f ws)
+  prefix : (f : ℕ) (text : List ℕ) → IsNamed fields f → IsPrefix fields f text → IsLeaf fields (query.Prefix f text)
   range : (f : ℕ) (a b : End) → IsNamed fields f → IsEnd fields f a → IsEnd fields f b → (is_open a && is_open b) ≡ false → IsLeaf fields (query.Range f a b)
 
 -- queries with at most d levels of parentheses: a Boolean one is no optional part alone, and has at most so many parts

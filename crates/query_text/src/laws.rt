@@ -2,7 +2,7 @@
 //! the law.
 ghost use Rattle.std.specs.Prelude.{List};
 ghost use Rattle.field_schema.specs.declared.field.Field.{Field};
-ghost use Rattle.query_text.specs.PrintLaws.{AllPrintsBack, ExistsPrintsBack, TermPrintsBack, WordsPrintBack};
+ghost use Rattle.query_text.specs.PrintLaws.{AllPrintsBack, ExistsPrintsBack, PrefixPrintsBack, TermPrintsBack, WordsPrintBack};
 ghost use Rattle.query_text.specs.Readable.{ReadablePrintsBack};
 
 /// `*:*` reads to the query that matches each document.
@@ -25,9 +25,15 @@ pub fn words()
     ensures { (fields : List Field) → WordsPrintBack fields }
 {}
 
+/// A text with `\` before each character that could mean something else, and before a word that is an operator,
+/// and `*` behind it read to the prefix, whatever characters it has.
+pub fn prefix()
+    ensures { (fields : List Field) → PrefixPrintsBack fields }
+{}
+
 /// The printed text of a readable query reads to it with `Or`, whatever the default field, and under the limit
-/// on clauses under which it is readable: terms, words, ranges, `*` and Boolean queries of these, nested in at most
-/// 64 pairs of parentheses. Prefixes are not among them.
+/// on clauses under which it is readable: terms, words, prefixes, ranges, `*` and Boolean queries of these, nested in
+/// at most 64 pairs of parentheses.
 pub fn readable()
     ensures { (fields : List Field) → ReadablePrintsBack fields }
 {}
