@@ -1,5 +1,5 @@
 -- What a printed range is as a lexeme, at any place and before any rest.
-use Rattle.std.proofs.Common.{◌≡◌, ◌+◌, ◌++◌, ◌∷◌, [], ℕ, List, Bool, true, false, None, Some, Ok, refl}
+use Rattle.std.proofs.Common.{◌≡◌, ◌+◌, ◌∷◌, [], ℕ, List, Bool, true, false, None, Some, Ok, refl}
 use Rattle.std.specs.Prelude.{encode_utf8, Option}
 use Rattle.std.specs.List.{flat_map}
 use Rattle.query_lexemes.specs.declared.letter.Class.TheVariants as class
@@ -7,7 +7,7 @@ use Rattle.query_lexemes.specs.declared.lexeme.Bound.{Bound}
 use Rattle.query_lexemes.specs.declared.lexeme.What.TheVariants as what
 use Rattle.query_lexemes.specs.Letters.{belongs, skip}
 use Rattle.query_lexemes.specs.Lexemes.{right, lexeme, special, bound, quoted_bound, run_bound, run_text, between, range, range_from, range_between, range_to, range_close}
-use Rattle.query_lexemes.proofs.Shapes.{Shape, lay, end_of, Stops, run_is, past_is, text_is}
+use Rattle.query_lexemes.proofs.Shapes.{Shape, lay, Stops, run_is, past_is, text_is}
 use Rattle.query_lexemes.proofs.Pieces.{own, quoting, quoting_belongs, spelled_quoting, in_quotes, behind_quotes, nothing_skipped, space_skipped}
 
 -- an end: a quoted text, or `*` where it is open

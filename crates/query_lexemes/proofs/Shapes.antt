@@ -1,13 +1,13 @@
 -- Letters by their characters alone, wherever they stand.
-use Rattle.std.proofs.Common.{◌≡◌, ◌+◌, ◌-◌, ◌++◌, ◌∷◌, [], ℕ, List, Bool, true, false, not, cond, refl, ap, sym, ◌∙◌, arith, drop, suc}
-use Rattle.std.specs.Prelude.{◌||◌, ◌&&◌, ◌==◌, encode_utf8}
+use Rattle.std.proofs.Common.{◌≡◌, ◌+◌, ◌-◌, ◌++◌, ◌∷◌, [], ℕ, List, Bool, true, false, not, cond, refl, ap, ◌∙◌, arith, drop, suc}
+use Rattle.std.specs.Prelude.{◌||◌, ◌==◌, encode_utf8}
 use Rattle.std.specs.Char.{len_utf8}
 use Rattle.std.specs.List.{take_while, prefix_len, flat_map}
 use Rattle.std.proofs.lemmas.List.Sums.{take_while-cons}
 use Rattle.std.proofs.lemmas.Bool.{or_cases, or_parts}
 use Rattle.query_lexemes.specs.declared.letter.Letter.{Letter}
 use Rattle.query_lexemes.specs.declared.letter.Class.{Class}
-use Rattle.query_lexemes.specs.Letters.{letters_from, shared, plain, escape, belongs, run, past, at_front, text_of}
+use Rattle.query_lexemes.specs.Letters.{letters_from, shared, belongs, run, past, text_of}
 
 -- a character that stands for itself, or behind `\`
 pub record Shape : Type 0 where

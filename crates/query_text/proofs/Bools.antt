@@ -1,6 +1,6 @@
 -- A Boolean query, in parentheses and as a whole text.
 use Rattle.std.proofs.Common.{◌≡◌, ◌+◌, ◌<◌, ◌≤◌, ◌++◌, ◌∷◌, [], ℕ, suc, List, Bool, true, false, Option, None, Some, Result, Ok, length, map, refl, ap, sym, subst, ◌∙◌, arith, codes, length-append}
-use Rattle.std.specs.Prelude.{◌||◌, ◌&&◌, ◌==◌, nat_le, nat_lt, if◌then◌else◌}
+use Rattle.std.specs.Prelude.{◌||◌, ◌==◌, if◌then◌else◌}
 use Rattle.std.proofs.lemmas.List.{append_assoc, append-nil}
 use Rattle.std.proofs.lemmas.Bool.{lt-leb, lt-ltb, ne_eqb, or_right, true≢false}
 use Rattle.std.proofs.lemmas.Str.{encode_ascii}
@@ -22,7 +22,7 @@ use Rattle.query_text.specs.Clauses.{joined}
 use Rattle.query_text.specs.Printing.{signed, is_begun, parts_text, part_text, printed}
 use Rattle.query_text.specs.PrintLaws.{PrintsBack, is_single}
 use Rattle.query_text.proofs.Steps.{Reads, step}
-use Rattle.query_text.proofs.Leaves.{level, HasRoom, more}
+use Rattle.query_text.proofs.Leaves.{level, more}
 use Rattle.query_text.proofs.Values.{opening_step, closing_step}
 use Rattle.query_text.proofs.Whole.{bytes_of, finished, whole_reads}
 use Rattle.query_text.proofs.Parts.{IsFine, part_along, top_along}

@@ -1,14 +1,11 @@
 -- Printed lists of parts, and parts in parentheses.
-use Rattle.std.proofs.Common.{◌≡◌, ◌+◌, ◌<◌, ◌≤◌, ◌++◌, ◌∷◌, [], ℕ, zero, suc, List, Bool, true, false, Option, None, Some, Result, Ok, length, map, refl, ap, sym, subst, ◌∙◌, arith, codes, length-append}
-use Rattle.std.specs.Prelude.{◌||◌, ◌&&◌, ◌==◌, nat_le, if◌then◌else◌}
+use Rattle.std.proofs.Common.{◌≡◌, ◌+◌, ◌≤◌, ◌++◌, ◌∷◌, [], ℕ, zero, suc, List, Bool, true, false, Option, None, Some, Result, length, refl, sym, subst, ◌∙◌, arith, codes, length-append}
 use Rattle.std.proofs.lemmas.List.{append_assoc, append-nil}
-use Rattle.std.proofs.lemmas.Bool.{lt-leb, ne_eqb}
-use Rattle.std.proofs.lemmas.Str.{encode_ascii}
+use Rattle.std.proofs.lemmas.Bool.{lt-leb}
 use Rattle.field_schema.specs.declared.field.Field.{Field}
 use Rattle.query_tree.specs.declared.query.Query.{Query}
-use Rattle.query_tree.specs.declared.query.Query.TheViews as parts
 use Rattle.query_lexemes.specs.declared.fault.QueryFault.{QueryFault}
-use Rattle.query_lexemes.specs.Letters.{is_blank, at_front, stands, skip, spoils}
+use Rattle.query_lexemes.specs.Letters.{is_blank, at_front, stands}
 use Rattle.query_lexemes.specs.Lexemes.{lexemes}
 use Rattle.query_lexemes.proofs.Shapes.{Shape, lay, Stops}
 use Rattle.query_lexemes.proofs.Pieces.{own, IsBehind, nothing_skipped, space_skipped}
@@ -17,18 +14,10 @@ use Rattle.query_text.specs.declared.level.Clause.{Clause}
 use Rattle.query_text.specs.declared.level.Sign.{Sign}
 use Rattle.query_text.specs.declared.level.Sign.TheVariants.{Required, Prohibited}
 use Rattle.query_text.specs.declared.level.Target.TheVariants.{Here}
-use Rattle.query_text.specs.declared.op.Op.{Op}
-use Rattle.query_text.specs.declared.op.Op.TheVariants as op
-use Rattle.query_text.specs.declared.clause.Mark.{Mark}
-use Rattle.query_text.specs.declared.clause.Mark.TheVariants as as_
-use Rattle.query_text.specs.Clauses.{mark, mark_by, kept, same_mark, conj_before, marked, sorted, alone, joined}
-use Rattle.query_text.specs.Printing.{signed, part_text}
 use Rattle.query_text.specs.Reads.{Setting, read_from}
-use Rattle.query_text.proofs.Steps.{Reads, Step, step}
+use Rattle.query_text.proofs.Steps.{Reads, step}
 use Rattle.query_text.proofs.Leaves.{level, HasRoom, more}
 use Rattle.query_text.proofs.Values.{required_step, prohibited_step}
-use Rattle.query_text.proofs.Whole.{bytes_of}
-use Rattle.query_text.proofs.Parts.{IsFine}
 use Rattle.query_text.proofs.Printed.{or_setting, Part}
 
 -- ---- a space

@@ -1,6 +1,6 @@
 -- The clauses of a printed Boolean query join to it.
-use Rattle.std.proofs.Common.{◌≡◌, ◌++◌, ◌∷◌, [], List, Bool, true, false, Option, None, Some, length, refl, ap, sym, ◌∙◌}
-use Rattle.std.specs.Prelude.{◌&&◌, ◌==◌, nat_le, if◌then◌else◌}
+use Rattle.std.proofs.Common.{◌≡◌, ◌++◌, ◌∷◌, [], List, Bool, true, false, Option, None, Some, refl, ap, sym, ◌∙◌}
+use Rattle.std.specs.Prelude.{if◌then◌else◌}
 use Rattle.std.proofs.lemmas.List.{append-nil}
 use Rattle.std.proofs.lemmas.Bool.{true≢false}
 use Rattle.query_tree.specs.declared.query.Query.{Query}
@@ -11,7 +11,7 @@ use Rattle.query_text.specs.declared.level.Sign.TheVariants.{Required, Prohibite
 use Rattle.query_text.specs.declared.op.Op.TheVariants as op
 use Rattle.query_text.specs.declared.clause.Mark.{Mark}
 use Rattle.query_text.specs.declared.clause.Mark.TheVariants as as_
-use Rattle.query_text.specs.Clauses.{mark, kept, same_mark, conj_before, marked, sorted, joined}
+use Rattle.query_text.specs.Clauses.{mark, same_mark, conj_before, marked, sorted, joined}
 use Rattle.query_text.specs.PrintLaws.{is_single}
 use Rattle.query_text.proofs.Groups.{clauses}
 

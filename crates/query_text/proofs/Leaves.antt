@@ -1,28 +1,24 @@
 -- The parts of a printed query that have no parts: each leads from any query that is being read to that query with one more clause.
-use Rattle.std.proofs.Common.{◌≡◌, ◌+◌, ◌<◌, ◌≤◌, ◌++◌, ◌∷◌, [], ℕ, List, suc, zero, Bool, true, false, not, Option, None, Some, Result, Ok, Err, length, refl, ap, sym, ◌∙◌, arith, cond, length-append}
-use Rattle.std.specs.Prelude.{◌||◌, ◌&&◌, nat_lt, nat_le, is_none, encode_utf8}
+use Rattle.std.proofs.Common.{◌≡◌, ◌+◌, ◌++◌, ◌∷◌, [], ℕ, List, Bool, true, false, not, Option, None, Some, length, refl}
+use Rattle.std.specs.Prelude.{◌||◌, ◌&&◌, nat_le, is_none, encode_utf8}
 use Rattle.std.specs.List.{flat_map}
 use Rattle.std.proofs.lemmas.Bool.{and_right}
 use Rattle.query_tree.specs.declared.query.Query.{Query}
-use Rattle.query_tree.specs.declared.query.Query.TheVariants as query
-use Rattle.field_schema.specs.declared.field.Field.{Field}
 use Rattle.query_lexemes.specs.declared.fault.QueryFault.{QueryFault}
-use Rattle.query_lexemes.specs.declared.lexeme.What.{What}
 use Rattle.query_lexemes.specs.declared.lexeme.What.TheVariants as what
-use Rattle.query_lexemes.specs.declared.lexeme.Bound.{Bound}
-use Rattle.query_lexemes.specs.Letters.{skip, belongs, is_blank, begins_word, is_white, is_special, is_plus}
+use Rattle.query_lexemes.specs.Letters.{is_white, is_special, is_plus}
 use Rattle.query_lexemes.specs.Lexemes.{right}
-use Rattle.query_lexemes.proofs.Shapes.{Shape, lay, letter, width, end_of, spelled, Stops}
-use Rattle.query_lexemes.proofs.Pieces.{own, in_quotes, behind_quotes, quoted_is, IsBehind, every_is, star_is, IsWord, name_is, prefix_is, nothing_skipped}
+use Rattle.query_lexemes.proofs.Shapes.{Shape, end_of, spelled}
+use Rattle.query_lexemes.proofs.Pieces.{own, in_quotes, behind_quotes, quoted_is, IsBehind, every_is, star_is, IsWord, name_is, nothing_skipped}
 use Rattle.query_text.specs.declared.level.Level.{Level}
 use Rattle.query_text.specs.declared.level.Clause.{Clause}
 use Rattle.query_text.specs.declared.level.Sign.{Sign}
 use Rattle.query_text.specs.declared.level.Target.{Target}
 use Rattle.query_text.specs.declared.level.Target.TheVariants.{Here, Every, To}
-use Rattle.query_text.specs.Readings.{indexed, kind_at, kind_for, value_in, words_of, words_in, term, prefix, star}
-use Rattle.query_text.specs.Faults.{syntax, unknown_field, is_long, is_no_number, bad_number, bad_bound, unsupported, is_whole, too_deep, most_deep, too_many, fault_if}
+use Rattle.query_text.specs.Readings.{indexed, kind_at, kind_for, value_in, words_in, term, star}
+use Rattle.query_text.specs.Faults.{syntax, unknown_field, is_long, is_no_number, bad_number, bad_bound, unsupported, too_deep, most_deep, too_many, fault_if}
 use Rattle.query_text.specs.Reads.{Setting, after, value}
-use Rattle.query_text.proofs.Steps.{Reads, Step, step, IsUntold, untold, fault_none}
+use Rattle.query_text.proofs.Steps.{Step, IsUntold, untold, fault_none}
 
 -- a query that is being read, with this before its next value
 abbrev pub level : Option ℕ → Bool → List Clause → Option Sign → Target → Level

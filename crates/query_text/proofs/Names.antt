@@ -1,16 +1,15 @@
 -- A field's name is a word that is no operator.
-use Rattle.std.proofs.Common.{◌≡◌, ◌+◌, ◌<◌, ◌++◌, ◌∷◌, [], ℕ, List, Bool, true, false, not, None, Some, refl, ap, sym, ◌∙◌, arith}
-use Rattle.std.specs.Prelude.{◌||◌, ◌&&◌, ◌==◌, encode_utf8, codes, nat_le, length}
-use Rattle.std.specs.List.{list_all, list_any, flat_map}
-use Rattle.std.specs.Char.{is_ascii_alphabetic, is_ascii_alphanumeric}
-use Rattle.std.proofs.lemmas.Bool.{and_parts, or_parts, or_cases, agree_below, agree_below_at, not-true, ne_eqb, eqb-true}
+use Rattle.std.proofs.Common.{◌≡◌, ◌+◌, ◌<◌, ◌∷◌, [], ℕ, List, true, false, None, refl, arith}
+use Rattle.std.specs.Prelude.{◌||◌, ◌&&◌, ◌==◌, codes, nat_le, length}
+use Rattle.std.specs.List.{list_all, list_any}
+use Rattle.std.proofs.lemmas.Bool.{and_parts, or_parts, agree_below_at, not-true}
 use Rattle.std.proofs.lemmas.Bool.Decides.{nat_tests}
 use Rattle.std.proofs.lemmas.Str.{encode_ascii}
 use Rattle.field_schema.specs.Bytes.{bytes_eq}
 use Rattle.field_schema.specs.Names.{is_name_byte, begins_name, is_field_name, reserved_names}
-use Rattle.query_lexemes.specs.Letters.{goes_on, begins_word, is_white, is_special, is_plus, has_escape, text_of}
+use Rattle.query_lexemes.specs.Letters.{goes_on, is_white, is_special, is_plus, has_escape}
 use Rattle.query_lexemes.specs.Lexemes.{operator_of, operator_named}
-use Rattle.query_lexemes.proofs.Shapes.{Shape, lay, letter, width, AllAre, spelled, text_is}
+use Rattle.query_lexemes.proofs.Shapes.{Shape, lay, width, AllAre, spelled, text_is}
 use Rattle.query_lexemes.proofs.Pieces.{own, IsWord}
 
 -- characters that stand for themselves

@@ -1,36 +1,25 @@
 -- The queries that have no parts print to texts that read to them.
-use Rattle.std.proofs.Common.{◌≡◌, ◌+◌, ◌<◌, ◌≤◌, ◌++◌, ◌∷◌, [], ℕ, zero, suc, List, Bool, true, false, not, cond, Option, None, Some, Result, Ok, length, map, refl, ap, sym, subst, ◌∙◌, arith, pos, codes, length-append}
-use Rattle.std.specs.Prelude.{◌||◌, ◌&&◌, ◌==◌, nat_le, encode_utf8}
+use Rattle.std.proofs.Common.{◌≡◌, ◌++◌, ◌∷◌, [], ℕ, List, Bool, true, false, not, cond, refl, ap, ◌∙◌, arith, codes}
+use Rattle.std.specs.Prelude.{◌||◌, ◌&&◌, ◌==◌, encode_utf8}
 use Rattle.std.specs.List.{flat_map, list_all}
-use Rattle.std.specs.Str.{chars, IsUtf8}
 use lib.Utf8.{encodes, encode, scalars, scalar}
 use Rattle.std.proofs.lemmas.List.{append_assoc}
-use Rattle.std.proofs.lemmas.Bool.{and_parts, and_from, lt-leb, agree_below_at}
-use Rattle.std.proofs.lemmas.Str.{chars-encodes, encodes-append, encode_ascii, encodes-chars, scalars-chars}
+use Rattle.std.proofs.lemmas.Bool.{and_parts, and_from, agree_below_at}
+use Rattle.std.proofs.lemmas.Str.{chars-encodes, encodes-append, encode_ascii}
 use Rattle.field_schema.specs.declared.field.Field.{Field}
 use Rattle.field_schema.specs.declared.key.Key.{Key}
-use Rattle.field_schema.specs.Names.{is_name_byte, is_field_name}
-use Rattle.field_schema.specs.Tokens.{tokens}
+use Rattle.field_schema.specs.Names.{is_name_byte}
 use Rattle.query_tree.specs.declared.query.Query.{Query, Query-F, fold_out-Query, out-Query}
 use Rattle.query_tree.specs.declared.query.Query.TheFolds.{map-Query}
 use Rattle.query_tree.specs.declared.query.Query.TheOpen as node
 use Rattle.query_tree.specs.declared.query.Query.TheViews as views
 use Rattle.query_tree.specs.declared.query.Query.TheVariants as query
-use Rattle.query_lexemes.proofs.Shapes.{Shape, lay, chars_of, IsSound}
-use Rattle.query_lexemes.proofs.Pieces.{own, quoting, in_quotes, IsBehind}
-use Rattle.query_text.specs.declared.level.Level.{Level}
-use Rattle.query_text.specs.declared.level.Clause.{Clause}
-use Rattle.query_text.specs.declared.level.Target.TheVariants.{Here, Every, To}
-use Rattle.query_text.specs.declared.op.Op.TheVariants as op
-use Rattle.query_text.specs.Readings.{kind_at, is_text}
+use Rattle.query_lexemes.proofs.Shapes.{Shape, chars_of, IsSound}
+use Rattle.query_lexemes.proofs.Pieces.{own, quoting, in_quotes}
 use Rattle.query_text.specs.Printing.{named, quoted_char, key_text, spaced, layer_text, part_text, top_text, printed}
 use Rattle.query_text.specs.Printing.{in_quotes as quoted_text}
-use Rattle.query_text.specs.PrintLaws.{PrintsBack, name_at, IsNamed, IsValue, IsKey, AllPrintsBack, ExistsPrintsBack, TermPrintsBack, WordsPrintBack}
-use Rattle.query_text.specs.Reads.{Setting, reading}
-use Rattle.query_text.proofs.Steps.{Reads, step}
-use Rattle.query_text.proofs.Leaves.{level, HasRoom, more, name_step, quoted_step, star_step, every_step}
-use Rattle.query_text.proofs.Names.{bare, IsName, name_from, name_word, spelled_bare, below}
-use Rattle.query_text.proofs.Whole.{bytes_of, finished, whole_reads}
+use Rattle.query_text.proofs.Names.{bare, below}
+use Rattle.query_text.proofs.Whole.{bytes_of}
 
 -- ---- texts of pieces
 

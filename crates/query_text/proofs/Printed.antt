@@ -1,16 +1,14 @@
 -- A query whose part is read back is read back as a whole text; queries without parts are.
-use Rattle.std.proofs.Common.{◌≡◌, ◌+◌, ◌<◌, ◌≤◌, ◌++◌, ◌∷◌, [], ℕ, suc, List, Bool, true, false, Option, None, Some, Result, Ok, length, refl, ap, sym, subst, ◌∙◌, arith, pos, codes, length-append}
+use Rattle.std.proofs.Common.{◌≡◌, ◌+◌, ◌<◌, ◌≤◌, ◌++◌, ◌∷◌, [], ℕ, List, Bool, true, false, Option, None, Some, Result, length, refl, ap, sym, subst, ◌∙◌, arith, codes, length-append}
 use Rattle.std.specs.Prelude.{◌||◌, ◌&&◌, ◌==◌, encode_utf8}
 use Rattle.std.specs.List.{list_all, flat_map}
 use Rattle.std.specs.Str.{chars, IsUtf8}
 use lib.Utf8.{encodes, scalars}
-use Rattle.std.proofs.lemmas.List.{append_assoc, append-nil}
-use Rattle.std.proofs.lemmas.Bool.{and_parts, or_parts, lt-leb, agree_below_at, false≢true}
+use Rattle.std.proofs.lemmas.List.{append_assoc}
+use Rattle.std.proofs.lemmas.Bool.{and_parts, or_parts, agree_below_at, false≢true}
 use Rattle.std.proofs.lemmas.Str.{encode_ascii, encodes-chars, scalars-chars}
 use Rattle.field_schema.specs.declared.field.Field.{Field}
-use Rattle.field_schema.specs.declared.key.Key.{Key}
 use Rattle.field_schema.specs.Names.{is_name_byte, is_field_name}
-use Rattle.field_schema.specs.Tokens.{tokens}
 use Rattle.query_tree.specs.declared.query.Query.{Query}
 use Rattle.query_tree.specs.declared.query.Query.TheVariants as query
 use Rattle.query_tree.specs.declared.query.Query.TheViews as views
@@ -18,24 +16,23 @@ use Rattle.query_tree.specs.declared.query.Query.TheOpen as node
 use Rattle.query_lexemes.specs.declared.fault.QueryFault.{QueryFault}
 use Rattle.query_lexemes.specs.Letters.{is_blank, is_white, at_front, stands}
 use Rattle.query_lexemes.proofs.Shapes.{Shape, lay, Stops}
-use Rattle.query_lexemes.proofs.Pieces.{own, quoting, in_quotes, IsBehind, nothing_skipped}
+use Rattle.query_lexemes.proofs.Pieces.{own, quoting, in_quotes, IsBehind}
 use Rattle.query_text.specs.declared.level.Level.{Level}
 use Rattle.query_text.specs.declared.level.Clause.{Clause}
 use Rattle.query_text.specs.declared.level.Sign.{Sign}
-use Rattle.query_text.specs.declared.level.Target.TheVariants.{Here, Every, To}
+use Rattle.query_text.specs.declared.level.Target.TheVariants.{Here, To}
 use Rattle.query_text.specs.declared.op.Op.TheVariants as op
-use Rattle.query_text.specs.Clauses.{joined}
-use Rattle.query_text.specs.Readings.{indexed, kind_at, is_text, key_of, term, words_in}
+use Rattle.query_text.specs.Readings.{indexed, kind_at, term, words_in}
 use Rattle.query_text.specs.Faults.{is_long, is_no_number}
-use Rattle.query_text.specs.Printing.{named, key_text, spaced, part_text, printed}
+use Rattle.query_text.specs.Printing.{named, part_text}
 use Rattle.query_text.specs.Printing.{in_quotes as quoted_text}
-use Rattle.query_text.specs.PrintLaws.{PrintsBack, name_at, IsNamed, IsValue, IsKey, AllPrintsBack, ExistsPrintsBack, TermPrintsBack, WordsPrintBack}
-use Rattle.query_text.specs.Reads.{Setting, reading}
+use Rattle.query_text.specs.PrintLaws.{name_at, IsNamed, IsValue}
+use Rattle.query_text.specs.Reads.{Setting}
 use Rattle.query_text.proofs.Steps.{Reads, Step, step}
-use Rattle.query_text.proofs.Leaves.{level, HasRoom, more, name_step, quoted_step, star_step, every_step}
+use Rattle.query_text.proofs.Leaves.{level, HasRoom, more, name_step, quoted_step, star_step}
 use Rattle.query_text.proofs.Names.{bare, IsName, name_from, name_word, spelled_bare, below}
-use Rattle.query_text.proofs.Whole.{bytes_of, finished, whole_reads}
-use Rattle.query_text.proofs.Parts.{IsFine, fine_name, fine_quotes, name_text, quotes_text, printed_all, printed_exists, printed_term, printed_words, part_along}
+use Rattle.query_text.proofs.Whole.{bytes_of}
+use Rattle.query_text.proofs.Parts.{IsFine, fine_name, fine_quotes, name_text, quotes_text, part_along}
 
 abbrev pub or_setting : List Field → Setting
 or_setting fields = record { fields = fields; op = op.Or }

@@ -1,15 +1,13 @@
 -- A printed range.
-use Rattle.std.proofs.Common.{◌≡◌, ◌+◌, ◌<◌, ◌++◌, ◌∷◌, [], ℕ, List, Bool, true, false, Option, None, Some, length, refl, ap, sym, subst, ◌∙◌, arith, codes, length-append}
+use Rattle.std.proofs.Common.{◌≡◌, ◌<◌, ◌++◌, ◌∷◌, ℕ, List, Bool, true, false, Option, None, Some, length, refl, ap, sym, subst, ◌∙◌, arith, codes, length-append}
 use Rattle.std.specs.Prelude.{◌&&◌}
 use Rattle.std.specs.Str.{chars}
-use lib.Utf8.{encodes, scalars}
 use Rattle.std.proofs.lemmas.List.{append_assoc}
 use Rattle.std.proofs.lemmas.Bool.{true≢false}
 use Rattle.std.proofs.lemmas.Str.{encode_ascii, encodes-chars, scalars-chars}
 use Rattle.field_schema.specs.declared.field.Field.{Field}
 use Rattle.query_tree.specs.declared.query.End.{End}
 use Rattle.query_tree.specs.declared.query.End.TheVariants as end
-use Rattle.query_tree.specs.declared.query.Query.{Query}
 use Rattle.query_tree.specs.declared.query.Query.TheVariants as query
 use Rattle.query_tree.specs.declared.query.Query.TheOpen as node
 use Rattle.query_tree.specs.declared.query.Query.TheViews as views
@@ -17,11 +15,11 @@ use Rattle.query_lexemes.proofs.Shapes.{Shape}
 use Rattle.query_lexemes.proofs.Pieces.{own, quoting}
 use Rattle.query_lexemes.proofs.Ranges.{bracket, stop, to, end_shapes, ends}
 use Rattle.query_lexemes.proofs.Ranges.{end_text as bound_text}
-use Rattle.query_text.specs.Readings.{kind_at, range, key_of, end_of}
+use Rattle.query_text.specs.Readings.{kind_at, range, end_of}
 use Rattle.query_text.specs.Faults.{is_long, is_no_number}
-use Rattle.query_text.specs.Printing.{named, key_text, end_text, opening, closing, range_text, part_text}
+use Rattle.query_text.specs.Printing.{named, key_text, end_text, opening, closing, range_text}
 use Rattle.query_text.specs.Printing.{in_quotes as quoted_text}
-use Rattle.query_text.specs.PrintLaws.{IsNamed, IsKey}
+use Rattle.query_text.specs.PrintLaws.{IsNamed}
 use Rattle.query_text.specs.Readable.{is_open, IsEnd}
 use Rattle.query_text.proofs.Leaves.{never}
 use Rattle.query_text.proofs.Values.{range_step}

@@ -1,8 +1,5 @@
 -- What is read of letters, lexeme by lexeme.
-use Rattle.std.proofs.Common.{◌≡◌, ◌<◌, ◌≤◌, ◌∷◌, [], ℕ, List, suc, zero, Bool, true, false, Option, None, Some, Result, Ok, Err, length, refl, ap, sym, ◌∙◌, arith, cond}
-use Rattle.std.specs.Prelude.{◌||◌, ◌&&◌, nat_lt, nat_le}
-use Rattle.std.specs.Option.{option_map_or}
-use Rattle.std.proofs.lemmas.Bool.{and_right}
+use Rattle.std.proofs.Common.{◌≡◌, ◌<◌, ℕ, List, suc, zero, Bool, false, None, Result, length, refl, arith}
 use Rattle.query_tree.specs.declared.query.Query.{Query}
 use Rattle.query_lexemes.specs.declared.fault.QueryFault.{QueryFault}
 use Rattle.query_lexemes.specs.declared.lexeme.Lexeme.{Lexeme}
@@ -12,8 +9,8 @@ use Rattle.query_lexemes.specs.Lexemes.{right, lexeme, lexemes}
 use Rattle.query_lexemes.proofs.Shapes.{Shape, lay}
 use Rattle.field_schema.specs.declared.field.Field.{Field}
 use Rattle.query_text.specs.declared.level.Level.{Level}
-use Rattle.query_text.specs.Readings.{kind_for, value_text, words_of}
-use Rattle.query_text.specs.Faults.{least, told, told_with, fault_if, earlier, syntax, unknown_field, is_long, is_no_number, bad_number, bad_bound, from_of, to_of, unsupported, is_prefix, is_whole, too_deep, is_opening, is_several, most_deep, too_many}
+use Rattle.query_text.specs.Readings.{kind_for, words_of}
+use Rattle.query_text.specs.Faults.{least, told, told_with, fault_if, syntax, unknown_field, bad_number, bad_bound, from_of, to_of, unsupported, too_deep, too_many}
 use Rattle.query_text.specs.Reads.{Setting, read_from, after, is_finish}
 
 -- what the rest reads to, wherever it stands and whatever is left to count

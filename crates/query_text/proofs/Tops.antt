@@ -1,6 +1,5 @@
 -- Whole texts of queries without parts.
-use Rattle.std.proofs.Common.{◌≡◌, ◌+◌, ◌<◌, ◌≤◌, ◌++◌, ◌∷◌, [], ℕ, List, Bool, true, false, Option, None, Some, Ok, length, refl, ap, sym, subst, ◌∙◌, arith, pos, codes}
-use Rattle.std.specs.Prelude.{◌&&◌, nat_le}
+use Rattle.std.proofs.Common.{◌≡◌, ◌≤◌, ◌∷◌, [], ℕ, List, true, false, None, Ok, length, refl, sym, ◌∙◌, arith}
 use Rattle.std.specs.Str.{IsUtf8}
 use Rattle.std.proofs.lemmas.List.{append-nil}
 use Rattle.std.proofs.lemmas.Bool.{lt-leb, false≢true}
@@ -14,19 +13,15 @@ use Rattle.query_tree.specs.declared.query.Query.{Query}
 use Rattle.query_tree.specs.declared.query.Query.TheVariants as query
 use Rattle.query_tree.specs.declared.query.Query.TheOpen as node
 use Rattle.query_tree.specs.declared.query.Query.TheViews as views
-use Rattle.query_lexemes.proofs.Shapes.{Shape, lay}
 use Rattle.query_lexemes.proofs.Pieces.{own, IsBehind, nothing_skipped}
-use Rattle.query_text.specs.declared.level.Clause.{Clause}
 use Rattle.query_text.specs.declared.level.Target.TheVariants.{Here, Every}
 use Rattle.query_text.specs.declared.op.Op.TheVariants as op
 use Rattle.query_text.specs.Clauses.{joined}
-use Rattle.query_text.specs.Readings.{kind_at, is_text, key_of, term, words_in}
-use Rattle.query_text.specs.Faults.{is_long, is_no_number}
+use Rattle.query_text.specs.Readings.{kind_at, is_text}
 use Rattle.query_text.specs.Printing.{key_text, spaced, part_text, printed}
-use Rattle.query_text.specs.PrintLaws.{PrintsBack, IsNamed, IsValue, IsKey, AllPrintsBack, ExistsPrintsBack, TermPrintsBack, WordsPrintBack}
-use Rattle.query_text.specs.Reads.{reading}
-use Rattle.query_text.proofs.Steps.{Reads, step}
-use Rattle.query_text.proofs.Leaves.{level, HasRoom, more, star_step, every_step}
+use Rattle.query_text.specs.PrintLaws.{PrintsBack, IsNamed, IsKey, AllPrintsBack, ExistsPrintsBack, TermPrintsBack, WordsPrintBack}
+use Rattle.query_text.proofs.Steps.{step}
+use Rattle.query_text.proofs.Leaves.{level, more, star_step, every_step}
 use Rattle.query_text.proofs.Whole.{bytes_of, finished, whole_reads}
 use Rattle.query_text.proofs.Parts.{IsFine, part_along, top_along}
 use Rattle.query_text.proofs.Printed.{or_setting, Part, part_named, spelled_from, star_value, quoted_value}
@@ -83,7 +78,7 @@ term_prints fields most f k room named whole key =
     (top_along fields (query.Term f k) (node.Term f k) (views.outs-Term f k))
 
 -- a field of tokens
-text_kind : (k : FieldType) → is_text k ≡ true → k ≡ kind.Text
+pub text_kind : (k : FieldType) → is_text k ≡ true → k ≡ kind.Text
 text_kind kind.Str h = absurd (false≢true h)
 text_kind kind.Long h = absurd (false≢true h)
 text_kind kind.Bool h = absurd (false≢true h)

@@ -1,14 +1,13 @@
 -- Prefixes and ranges as parts of a printed query, and signs, parentheses and spaces between parts.
 use Rattle.std.proofs.Common.{◌≡◌, ◌+◌, ◌++◌, ◌∷◌, [], ℕ, suc, List, Bool, true, false, Option, None, Some, length, refl, arith}
 use Rattle.std.proofs.lemmas.Bool.{ne_eqb}
-use Rattle.std.specs.Prelude.{◌||◌, ◌&&◌, ◌==◌, nat_le, is_none, encode_utf8}
-use Rattle.std.specs.List.{flat_map}
+use Rattle.std.specs.Prelude.{◌&&◌, ◌==◌, nat_le}
 use Rattle.query_tree.specs.declared.query.Query.{Query}
 use Rattle.query_lexemes.specs.declared.lexeme.What.TheVariants as what
 use Rattle.query_lexemes.specs.Letters.{is_blank, is_white, is_special, is_plus}
 use Rattle.query_lexemes.specs.Lexemes.{right}
 use Rattle.query_lexemes.proofs.Shapes.{Shape, end_of, spelled, Stops}
-use Rattle.query_lexemes.proofs.Pieces.{own, IsBehind, IsWord, prefix_is, nothing_skipped, space_skipped, required_is, prohibited_is, opening_is, closing_is}
+use Rattle.query_lexemes.proofs.Pieces.{own, IsBehind, IsWord, prefix_is, nothing_skipped, required_is, prohibited_is, opening_is, closing_is}
 use Rattle.query_lexemes.proofs.Ranges.{bracket, ends, end_bound, end_text, upper_place, behind_end, range_is}
 use Rattle.query_text.specs.declared.level.Level.{Level}
 use Rattle.query_text.specs.declared.level.Clause.{Clause}
@@ -20,7 +19,7 @@ use Rattle.query_text.specs.Readings.{kind_at, kind_for, prefix, range, value_in
 use Rattle.query_text.specs.Faults.{syntax, unknown_field, is_long, is_no_number, bad_number, bad_bound, unsupported, is_whole, too_deep, most_deep, too_many}
 use Rattle.query_text.specs.Reads.{Setting, after, value}
 use Rattle.query_text.proofs.Steps.{Step, IsUntold, untold, fault_none}
-use Rattle.query_text.proofs.Leaves.{level, HasRoom, more, never, not_deep, not_long, begins_no_blank}
+use Rattle.query_text.proofs.Leaves.{level, HasRoom, more, not_deep, not_long, begins_no_blank}
 
 module _ (s : Setting) (most end : ℕ) (df : Option ℕ) (named : Bool) (cs : List Clause) (sign : Option Sign) (os : List Level) where
   -- ---- a prefix

@@ -1,13 +1,10 @@
 -- A whole text, given by its characters, reads to the query that its lexemes read to.
-use Rattle.std.proofs.Common.{◌≡◌, ◌+◌, ◌<◌, ◌++◌, ◌∷◌, [], ℕ, zero, suc, List, Bool, true, false, Option, None, Ok, length, refl, ap, ◌∙◌, arith, pos}
-use Rattle.std.specs.Prelude.{◌||◌, ◌&&◌, ◌==◌, encode_utf8}
-use Rattle.std.specs.Str.{chars}
+use Rattle.std.proofs.Common.{◌≡◌, ◌+◌, ◌<◌, ◌∷◌, [], ℕ, zero, suc, List, Bool, true, false, Option, None, Ok, length, refl, ap, ◌∙◌, arith, pos}
 use lib.Utf8.{encodes, scalars}
-use Rattle.std.proofs.lemmas.List.{append_assoc}
 use Rattle.std.proofs.lemmas.Str.{chars-encodes}
 use Rattle.query_tree.specs.declared.query.Query.{Query}
 use Rattle.query_lexemes.specs.Letters.{letters, at_front, stands}
-use Rattle.query_lexemes.specs.Lexemes.{lexeme, lexemes, right}
+use Rattle.query_lexemes.specs.Lexemes.{lexemes}
 use Rattle.query_lexemes.specs.declared.lexeme.What.TheVariants as what
 use Rattle.query_lexemes.proofs.Shapes.{Shape, lay, width, chars_of, IsSound, laid}
 use Rattle.query_lexemes.proofs.Pieces.{finish_is, nothing_skipped}
@@ -19,8 +16,8 @@ use Rattle.query_text.specs.Clauses.{joined}
 use Rattle.query_text.specs.Readings.{kind_for}
 use Rattle.query_text.specs.Faults.{syntax, unknown_field, is_long, bad_number, bad_bound, unsupported, too_deep, too_many}
 use Rattle.query_text.specs.Reads.{Setting, read_from, query_of, letters_reading, reading}
-use Rattle.query_text.proofs.Steps.{Reads, IsUntold, untold, fault_none}
-use Rattle.query_text.proofs.Leaves.{level, never, not_deep, not_long}
+use Rattle.query_text.proofs.Steps.{Reads, IsUntold, untold}
+use Rattle.query_text.proofs.Leaves.{level, not_long}
 
 -- the text of the characters
 abbrev pub bytes_of : List Shape → List ℕ

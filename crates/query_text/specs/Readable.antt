@@ -1,17 +1,22 @@
 -- The queries whose printed text reads to them.
-use Rattle.std.specs.Prelude.{ℕ, suc, ◌≡◌, ◌≤◌, ◌+◌, List, [], ◌∷◌, length, Bool, true, false, ◌&&◌}
+use Rattle.std.specs.Prelude.{ℕ, suc, ◌≡◌, ◌≤◌, ◌+◌, List, [], ◌∷◌, length, Bool, true, false, ◌&&◌, Option, is_some, Ok}
+use Rattle.std.specs.Option.{option_map_or}
 use Rattle.std.specs.Str.{IsUtf8}
 use Rattle.field_schema.specs.declared.field.Field.{Field}
 use Rattle.field_schema.specs.declared.key.Key.{Key}
+use Rattle.field_schema.specs.Schema.{Fields, IsSchema}
 use Rattle.field_schema.specs.Tokens.{tokens}
 use Rattle.query_tree.specs.declared.query.End.{End}
 use Rattle.query_tree.specs.declared.query.End.TheVariants as end
 use Rattle.query_tree.specs.declared.query.Query.{Query}
 use Rattle.query_tree.specs.declared.query.Query.TheVariants as query
 use Rattle.query_tree.specs.declared.query.Query.TheViews as parts
-use Rattle.query_text.specs.Readings.{kind_at, is_text}
+use Rattle.query_text.specs.declared.op.Op.{Op}
+use Rattle.query_text.specs.declared.reader.Parsed.{Parsed}
+use Rattle.query_text.specs.Readings.{if_indexed, kind_at, is_text}
 use Rattle.query_text.specs.Printing.{spaced}
 use Rattle.query_text.specs.PrintLaws.{PrintsBack, is_single, IsNamed, IsKey, IsPrefix}
+use Rattle.query_text.specs.Reads.{reading}
 
 abbrev pub is_open : End → Bool
 is_open end.Open = true
@@ -50,3 +55,27 @@ pub data IsReadable (fields : List Field) (most : ℕ) : Query → Type 0 where
 -- each of them is read back
 abbrev pub ReadablePrintsBack : List Field → Type 0
 ReadablePrintsBack fields = (most : ℕ) (q : Query) → IsReadable fields most q → PrintsBack fields most q
+
+-- ---- what texts read to
+
+-- no default field, or an indexed one
+abbrev pub is_default : List Field → Option ℕ → Bool
+is_default fields df = option_map_or (λ f. is_some (if_indexed fields f)) df true
+
+-- a text that reads, in a schema, with some default field, operator and limit on clauses
+pub record IsRead (s : Fields) (most : ℕ) (p : Parsed) : Type 0 where
+  pub schema : IsSchema s
+  pub df : Option ℕ
+  pub default : is_default s.list df ≡ true
+  pub op : Op
+  pub text : List ℕ
+  pub utf8 : IsUtf8 text
+  pub reads : reading s.list df op most text ≡ Ok p
+
+-- each query that a text reads to is readable
+abbrev pub ReadIsReadable : Type 0
+ReadIsReadable = (s : Fields) (most : ℕ) (p : Parsed) → IsRead s most p → IsReadable s.list most p.query
+
+-- and its printed text reads to it with Or, whatever the default field
+abbrev pub PrintedReadsBack : Type 0
+PrintedReadsBack = (s : Fields) (most : ℕ) (p : Parsed) → IsRead s most p → PrintsBack s.list most p.query

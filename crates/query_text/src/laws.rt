@@ -3,7 +3,7 @@
 ghost use Rattle.std.specs.Prelude.{List};
 ghost use Rattle.field_schema.specs.declared.field.Field.{Field};
 ghost use Rattle.query_text.specs.PrintLaws.{AllPrintsBack, ExistsPrintsBack, PrefixPrintsBack, TermPrintsBack, WordsPrintBack};
-ghost use Rattle.query_text.specs.Readable.{ReadablePrintsBack};
+ghost use Rattle.query_text.specs.Readable.{PrintedReadsBack, ReadIsReadable, ReadablePrintsBack};
 
 /// `*:*` reads to the query that matches each document.
 pub fn all()
@@ -36,4 +36,17 @@ pub fn prefix()
 /// at most 64 pairs of parentheses.
 pub fn readable()
     ensures { (fields : List Field) → ReadablePrintsBack fields }
+{}
+
+/// Each query that a text reads to is readable, whatever the operator, under the limit on clauses under which it was
+/// read.
+pub fn what_reads_is_readable()
+    ensures { ReadIsReadable }
+{}
+
+/// The printed text of each query that a text reads to reads to it with `Or`, whatever the default field, under
+/// the limit on clauses under which it was read. The operator, the default field and the local parameters of
+/// the first reading are free.
+pub fn printed_reads_back()
+    ensures { PrintedReadsBack }
 {}

@@ -285,7 +285,8 @@ fn write_signed(
     Ok(())
 }
 
-/// The text of a query, by which `parse` gives it again with `Or`: that is tested on each row of a table, and not proved.
+/// The text of a query. Where `parse` gave the query, whatever the operator and the default field, it gives it again
+/// for this text with `Or`, under the same limit on clauses: that is `laws::printed_reads_back`.
 ///
 /// It costs the text's length, and three stack frames a level; parsed queries are at most 65
 /// levels deep.
