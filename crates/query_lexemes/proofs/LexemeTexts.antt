@@ -108,18 +108,8 @@ abbrev pub IsFit : What → Type 0
 IsFit (what.Word text) = IsUtf8 text
 IsFit (what.Prefix text) = IsUtf8 text × (is_filled text ≡ true)
 IsFit (what.Quoted text) = IsUtf8 text
-IsFit what.Star = Unit {0}
 IsFit (what.Range low from to high) = IfText from.text × IfText to.text
-IsFit (what.Name text colon) = Unit {0}
-IsFit (what.Any colon other) = Unit {0}
-IsFit (what.Operator o behind) = Unit {0}
-IsFit (what.Sign prohibits) = Unit {0}
-IsFit what.Opening = Unit {0}
-IsFit what.Closing = Unit {0}
-IsFit what.Finish = Unit {0}
-IsFit (what.Begun from to) = Unit {0}
-IsFit what.Half = Unit {0}
-IsFit what.Flaw = Unit {0}
+IsFit w = Unit {0}
 
 abbrev Lacks : Option ℕ → List Letter → Type 0
 Lacks None rest = at_front is_unsupported rest ≡ true
@@ -127,21 +117,8 @@ Lacks (Some at) rest = Unit {0}
 
 -- what stands behind an operator without a place behind it
 abbrev Ahead : What → List Letter → Type 0
-Ahead (what.Word text) rest = Unit {0}
-Ahead (what.Prefix text) rest = Unit {0}
-Ahead (what.Quoted text) rest = Unit {0}
-Ahead what.Star rest = Unit {0}
-Ahead (what.Range low from to high) rest = Unit {0}
-Ahead (what.Name text colon) rest = Unit {0}
-Ahead (what.Any colon other) rest = Unit {0}
 Ahead (what.Operator o behind) rest = Lacks behind rest
-Ahead (what.Sign prohibits) rest = Unit {0}
-Ahead what.Opening rest = Unit {0}
-Ahead what.Closing rest = Unit {0}
-Ahead what.Finish rest = Unit {0}
-Ahead (what.Begun from to) rest = Unit {0}
-Ahead what.Half rest = Unit {0}
-Ahead what.Flaw rest = Unit {0}
+Ahead w rest = Unit {0}
 
 abbrev Fit : Lexeme × List Letter → Type 0
 Fit p = IsFit p.0.what × (Ahead p.0.what p.1 × AreReal p.1)
@@ -315,21 +292,8 @@ LacksNext (Some at) xs = Unit {0}
 
 -- what comes behind an operator without a place behind it
 abbrev pub Follows : What → List Lexeme → Type 0
-Follows (what.Word text) xs = Unit {0}
-Follows (what.Prefix text) xs = Unit {0}
-Follows (what.Quoted text) xs = Unit {0}
-Follows what.Star xs = Unit {0}
-Follows (what.Range low from to high) xs = Unit {0}
-Follows (what.Name text colon) xs = Unit {0}
-Follows (what.Any colon other) xs = Unit {0}
 Follows (what.Operator o behind) xs = LacksNext behind xs
-Follows (what.Sign prohibits) xs = Unit {0}
-Follows what.Opening xs = Unit {0}
-Follows what.Closing xs = Unit {0}
-Follows what.Finish xs = Unit {0}
-Follows (what.Begun from to) xs = Unit {0}
-Follows what.Half xs = Unit {0}
-Follows what.Flaw xs = Unit {0}
+Follows w xs = Unit {0}
 
 abbrev pub AllFit : List Lexeme → Type 0
 AllFit [] = Unit {0}
@@ -345,21 +309,8 @@ lacks_next n end None rest h = front_wrong n end rest h
 lacks_next n end (Some p) rest h = tt
 
 follows : (n end : ℕ) (w : What) (rest : List Letter) → Ahead w rest → Follows w (lexemes n end rest)
-follows n end (what.Word text) rest h = tt
-follows n end (what.Prefix text) rest h = tt
-follows n end (what.Quoted text) rest h = tt
-follows n end what.Star rest h = tt
-follows n end (what.Range low from to high) rest h = tt
-follows n end (what.Name text colon) rest h = tt
-follows n end (what.Any colon other) rest h = tt
 follows n end (what.Operator o behind) rest h = lacks_next n end behind rest h
-follows n end (what.Sign prohibits) rest h = tt
-follows n end what.Opening rest h = tt
-follows n end what.Closing rest h = tt
-follows n end what.Finish rest h = tt
-follows n end (what.Begun from to) rest h = tt
-follows n end what.Half rest h = tt
-follows n end what.Flaw rest h = tt
+follows n end w rest h = tt
 
 pub lexemes_fit : (n end : ℕ) (ls : List Letter) → AreReal ls → AllFit (lexemes n end ls)
 unfolding lexemes

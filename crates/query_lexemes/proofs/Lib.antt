@@ -1,3 +1,4 @@
+pub mod Characters
 mod ItemsTurn
 mod Numbers
 mod Runs

@@ -15,10 +15,10 @@ use Rattle.query_text.specs.declared.level.Clause.{Clause}
 use Rattle.query_text.specs.declared.level.Sign.{Sign}
 use Rattle.query_text.specs.declared.level.Target.{Target}
 use Rattle.query_text.specs.declared.level.Target.TheVariants.{Here, Every, To}
-use Rattle.query_text.specs.Readings.{indexed, kind_at, kind_for, value_in, words_in, term, star}
+use Rattle.query_text.specs.Readings.{indexed, kind_at, value_in, words_in, term, star}
 use Rattle.query_text.specs.Faults.{syntax, unknown_field, is_long, is_no_number, bad_number, bad_bound, unsupported, too_deep, most_deep, too_many, fault_if}
 use Rattle.query_text.specs.Reads.{Setting, after, value}
-use Rattle.query_text.proofs.Steps.{Step, IsUntold, untold, fault_none}
+use Rattle.query_text.proofs.Steps.{Step, IsUntold, untold, fault_none, bare_untold}
 
 -- a query that is being read, with this before its next value
 abbrev pub level : Option ℕ → Bool → List Clause → Option Sign → Target → Level
@@ -53,17 +53,9 @@ begins_no_blank false false s p h = refl
 module _ (s : Setting) (most end : ℕ) (df : Option ℕ) (named : Bool) (cs : List Clause) (sign : Option Sign) (os : List Level) where
   name_untold : (f at colon : ℕ) (text : List ℕ) → indexed text s.fields ≡ Some f → HasRoom most cs sign
       → IsUntold s.fields most (level df named cs sign Here) os at (what.Name text colon)
-  unfolding syntax unknown_field bad_number bad_bound unsupported too_deep too_many
-  name_untold f at colon text e room = record {
-    syntax = refl;
-    field = rw e refl;
-    number = not_long (is_long (kind_for s.fields (level df named cs sign Here))) at;
-    from = refl;
-    to = refl;
-    prefix = refl;
-    deep = not_deep os at;
-    many = rw room refl;
-  }
+  unfolding syntax unknown_field too_deep too_many
+  name_untold f at colon text e room =
+      bare_untold s.fields most (level df named cs sign Here) os at (what.Name text colon) (refl, refl, refl, refl) refl (rw e refl) (not_deep os at) (rw room refl)
 
   pub name_step : (f : ℕ) (c : Shape) (w rest : List Shape) → IsWord c w → indexed (spelled (c ∷ w)) s.fields ≡ Some f → HasRoom most cs sign
       → (at : ℕ) → Step s most end (level df named cs sign Here) os ((c ∷ w) ++ own 58 ∷ rest) rest (level df named cs sign (To (Some f))) os at
@@ -111,17 +103,9 @@ module _ (s : Setting) (most end : ℕ) (df : Option ℕ) (named : Bool) (cs : L
   -- ---- `*`
 
   star_untold : (t : Target) (at : ℕ) → Rattle.query_text.specs.Levels.is_own t ≡ false → IsUntold s.fields most (level df named cs sign t) os at what.Star
-  unfolding syntax unknown_field bad_number bad_bound unsupported too_deep too_many
-  star_untold t at h = record {
-    syntax = refl;
-    field = refl;
-    number = not_long (is_long (kind_for s.fields (level df named cs sign t))) at;
-    from = refl;
-    to = refl;
-    prefix = refl;
-    deep = not_deep os at;
-    many = rw h refl;
-  }
+  unfolding syntax unknown_field too_deep too_many
+  star_untold t at h =
+      bare_untold s.fields most (level df named cs sign t) os at what.Star (refl, refl, refl, refl) refl refl (not_deep os at) (rw h refl)
 
   pub star_step : (t : Target) (rest : List Shape) (q : Query) → Rattle.query_text.specs.Levels.is_own t ≡ false
       → star (level df named cs sign t) ≡ q → IsBehind rest
@@ -137,17 +121,9 @@ module _ (s : Setting) (most end : ℕ) (df : Option ℕ) (named : Bool) (cs : L
   }
 
   every_untold : (at : ℕ) → HasRoom most cs sign → IsUntold s.fields most (level df named cs sign Here) os at (what.Any (at + 1) false)
-  unfolding syntax unknown_field bad_number bad_bound unsupported too_deep too_many
-  every_untold at room = record {
-    syntax = refl;
-    field = refl;
-    number = not_long (is_long (kind_for s.fields (level df named cs sign Here))) at;
-    from = refl;
-    to = refl;
-    prefix = refl;
-    deep = not_deep os at;
-    many = rw room refl;
-  }
+  unfolding syntax unknown_field too_deep too_many
+  every_untold at room =
+      bare_untold s.fields most (level df named cs sign Here) os at (what.Any (at + 1) false) (refl, refl, refl, refl) refl refl (not_deep os at) (rw room refl)
 
   pub every_step : (rest : List Shape) → HasRoom most cs sign
       → (at : ℕ) → Step s most end (level df named cs sign Here) os (own 42 ∷ own 58 ∷ own 42 ∷ rest) (own 42 ∷ rest) (level df named cs sign Every) os at

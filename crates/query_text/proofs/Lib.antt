@@ -21,3 +21,4 @@ pub mod Tops
 pub mod Turns
 pub mod Values
 pub mod Whole
+pub mod Writing

@@ -185,23 +185,9 @@ module _ (fields : List Field) (most f : ℕ) (named : IsNamed fields f) where
 
 -- a conjunction stands behind a clause
 abbrev JoinsIf : What → Level → Type 0
-JoinsIf (what.Word text) l = Unit {0}
-JoinsIf (what.Prefix text) l = Unit {0}
-JoinsIf (what.Quoted text) l = Unit {0}
-JoinsIf what.Star l = Unit {0}
-JoinsIf (what.Range low from to high) l = Unit {0}
-JoinsIf (what.Name text colon) l = Unit {0}
-JoinsIf (what.Any colon other) l = Unit {0}
 JoinsIf (what.Operator operator.And behind) l = joins l ≡ true
 JoinsIf (what.Operator operator.Or behind) l = joins l ≡ true
-JoinsIf (what.Operator operator.Not behind) l = Unit {0}
-JoinsIf (what.Sign prohibits) l = Unit {0}
-JoinsIf what.Opening l = Unit {0}
-JoinsIf what.Closing l = Unit {0}
-JoinsIf what.Finish l = Unit {0}
-JoinsIf (what.Begun from to) l = Unit {0}
-JoinsIf what.Half l = Unit {0}
-JoinsIf what.Flaw l = Unit {0}
+JoinsIf w l = Unit {0}
 
 not_both : (a b : Bool) → (a && b) ≡ false → b ≡ true → a ≡ false
 not_both true b h k = absurd (true≢false (sym k ∙ h))
@@ -393,33 +379,16 @@ module _ (s : Setting) (most : ℕ) (names : (text : List ℕ) (f : ℕ) → ind
     step (what.Sign prohibits) u t j = with_sign d l os h out _ (room_from d l os h out at (what.Sign prohibits) refl t.many)
     step what.Opening u t j = open_if d l os h out d refl (shallow d l os h out at what.Opening refl t.deep) (room_from d l os h out at what.Opening refl t.many)
     step what.Closing u t j = close_state d l os h out (not_if _ _ t.syntax)
-    step what.Finish u t j = record { d = d; held = h; outer = out }
-    step (what.Begun from to) u t j = record { d = d; held = h; outer = out }
-    step what.Half u t j = record { d = d; held = h; outer = out }
-    step what.Flaw u t j = record { d = d; held = h; outer = out }
+    step w u t j = record { d = d; held = h; outer = out }
 
     -- a conjunction stands behind a clause, or the next lexeme is wrong
     decide : (w : What) (xs : List Lexeme) → Follows w xs → syntax l os at w ≡ None → JoinsIf w l ⊎ (NextWrong xs × ((after s l os w).0.clauses ≡ l.clauses))
     unfolding after syntax
-    decide (what.Word text) xs f e = inl tt
-    decide (what.Prefix text) xs f e = inl tt
-    decide (what.Quoted text) xs f e = inl tt
-    decide what.Star xs f e = inl tt
-    decide (what.Range low from to high) xs f e = inl tt
-    decide (what.Name text colon) xs f e = inl tt
-    decide (what.Any colon other) xs f e = inl tt
     decide (what.Operator operator.And None) xs f e = inr (f, refl)
     decide (what.Operator operator.And (Some p)) xs f e = inl (fits_if _ _ e)
     decide (what.Operator operator.Or None) xs f e = inr (f, refl)
     decide (what.Operator operator.Or (Some p)) xs f e = inl (fits_if _ _ e)
-    decide (what.Operator operator.Not behind) xs f e = inl tt
-    decide (what.Sign prohibits) xs f e = inl tt
-    decide what.Opening xs f e = inl tt
-    decide what.Closing xs f e = inl tt
-    decide what.Finish xs f e = inl tt
-    decide (what.Begun from to) xs f e = inl tt
-    decide what.Half xs f e = inl tt
-    decide what.Flaw xs f e = inl tt
+    decide w xs f e = inl tt
 
   -- ---- a whole text
 

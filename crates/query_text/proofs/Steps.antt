@@ -1,4 +1,5 @@
 -- What is read of letters, lexeme by lexeme.
+use Rattle.std.proofs.lemmas.Bool.{and_right}
 use Rattle.std.proofs.Common.{◌≡◌, ◌<◌, ℕ, List, suc, zero, Bool, false, None, Result, length, refl, arith}
 use Rattle.query_tree.specs.declared.query.Query.{Query}
 use Rattle.query_lexemes.specs.declared.fault.QueryFault.{QueryFault}
@@ -9,8 +10,8 @@ use Rattle.query_lexemes.specs.Lexemes.{right, lexeme, lexemes}
 use Rattle.query_lexemes.proofs.Shapes.{Shape, lay}
 use Rattle.field_schema.specs.declared.field.Field.{Field}
 use Rattle.query_text.specs.declared.level.Level.{Level}
-use Rattle.query_text.specs.Readings.{kind_for, words_of}
-use Rattle.query_text.specs.Faults.{least, told, told_with, fault_if, syntax, unknown_field, bad_number, bad_bound, from_of, to_of, unsupported, too_deep, too_many}
+use Rattle.query_text.specs.Readings.{kind_for, words_of, value_text}
+use Rattle.query_text.specs.Faults.{least, told, told_with, fault_if, syntax, unknown_field, bad_number, bad_bound, from_of, to_of, unsupported, too_deep, too_many, is_prefix, is_long}
 use Rattle.query_text.specs.Reads.{Setting, read_from, after, is_finish}
 
 -- what the rest reads to, wherever it stands and whatever is left to count
@@ -56,3 +57,22 @@ pub record IsUntold (fields : List Field) (most : ℕ) (l : Level) (os : List Le
 pub untold : (fields : List Field) (most : ℕ) (l : Level) (os : List Level) (at : ℕ) (w : What) → IsUntold fields most l os at w → least (told fields most l os (right at w)) ≡ None
 unfolding told_with least
 untold fields most l os at w h = rw (h.syntax, h.field, h.number, h.from, h.to, h.prefix, h.deep, h.many) refl
+
+-- a lexeme without a text of its own
+abbrev pub IsBare : Level → What → Type 0
+IsBare l w = (value_text l w ≡ None) × (from_of w ≡ None) × (to_of w ≡ None) × (is_prefix w ≡ false)
+
+-- it has the faults of its place alone
+pub bare_untold : (fields : List Field) (most : ℕ) (l : Level) (os : List Level) (at : ℕ) (w : What) → IsBare l w → syntax l os at w ≡ None → unknown_field fields l at w ≡ None
+    → too_deep l os at w (words_of fields l w) ≡ None → too_many most l at w (words_of fields l w) ≡ None → IsUntold fields most l os at w
+unfolding bad_number bad_bound unsupported
+bare_untold fields most l os at w bare stands known deep many = record {
+  syntax = stands;
+  field = known;
+  number = rw bare.0 (fault_none _ _ (and_right (is_long (kind_for fields l)) false refl));
+  from = rw bare.1 refl;
+  to = rw bare.2 refl;
+  prefix = rw bare.3 refl;
+  deep = deep;
+  many = many;
+}

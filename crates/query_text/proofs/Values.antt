@@ -15,10 +15,10 @@ use Rattle.query_text.specs.declared.level.Sign.{Sign}
 use Rattle.query_text.specs.declared.level.Sign.TheVariants.{Required, Prohibited}
 use Rattle.query_text.specs.declared.level.Target.TheVariants.{Here, To}
 use Rattle.query_text.specs.Clauses.{joined}
-use Rattle.query_text.specs.Readings.{kind_at, kind_for, prefix, range, value_in}
+use Rattle.query_text.specs.Readings.{kind_at, prefix, range, value_in}
 use Rattle.query_text.specs.Faults.{syntax, unknown_field, is_long, is_no_number, bad_number, bad_bound, unsupported, is_whole, too_deep, most_deep, too_many}
 use Rattle.query_text.specs.Reads.{Setting, after, value}
-use Rattle.query_text.proofs.Steps.{Step, IsUntold, untold, fault_none}
+use Rattle.query_text.proofs.Steps.{Step, IsUntold, bare_untold, untold, fault_none}
 use Rattle.query_text.proofs.Leaves.{level, HasRoom, more, not_deep, not_long, begins_no_blank}
 
 module _ (s : Setting) (most end : ℕ) (df : Option ℕ) (named : Bool) (cs : List Clause) (sign : Option Sign) (os : List Level) where
@@ -93,17 +93,9 @@ module _ (s : Setting) (most end : ℕ) (df : Option ℕ) (named : Bool) (cs : L
 
 module _ (s : Setting) (most end : ℕ) (df : Option ℕ) (named : Bool) (cs : List Clause) (os : List Level) where
   sign_untold : (at : ℕ) (prohibits : Bool) → HasRoom most cs None → IsUntold s.fields most (level df named cs None Here) os at (what.Sign prohibits)
-  unfolding syntax unknown_field bad_number bad_bound unsupported too_deep too_many
-  sign_untold at prohibits room = record {
-    syntax = refl;
-    field = refl;
-    number = not_long (is_long (kind_for s.fields (level df named cs None Here))) at;
-    from = refl;
-    to = refl;
-    prefix = refl;
-    deep = not_deep os at;
-    many = rw room refl;
-  }
+  unfolding syntax unknown_field too_deep too_many
+  sign_untold at prohibits room =
+      bare_untold s.fields most (level df named cs None Here) os at (what.Sign prohibits) (refl, refl, refl, refl) refl refl (not_deep os at) (rw room refl)
 
   pub required_step : (rest : List Shape) → HasRoom most cs None
       → (at : ℕ) → Step s most end (level df named cs None Here) os (own 43 ∷ rest) rest (level df named cs (Some Required) Here) os at
@@ -132,17 +124,9 @@ module _ (s : Setting) (most end : ℕ) (df : Option ℕ) (named : Bool) (cs : L
 module _ (s : Setting) (most end : ℕ) (df : Option ℕ) (named : Bool) (cs : List Clause) (sign : Option Sign) (os : List Level) where
   opening_untold : (at : ℕ) → HasRoom most cs sign → nat_le most_deep (length os) ≡ false
       → IsUntold s.fields most (level df named cs sign Here) os at what.Opening
-  unfolding syntax unknown_field bad_number bad_bound unsupported too_deep too_many
-  opening_untold at room shallow = record {
-    syntax = refl;
-    field = refl;
-    number = not_long (is_long (kind_for s.fields (level df named cs sign Here))) at;
-    from = refl;
-    to = refl;
-    prefix = refl;
-    deep = rw shallow refl;
-    many = rw room refl;
-  }
+  unfolding syntax unknown_field too_deep too_many
+  opening_untold at room shallow =
+      bare_untold s.fields most (level df named cs sign Here) os at what.Opening (refl, refl, refl, refl) refl refl (rw shallow refl) (rw room refl)
 
   pub opening_step : (rest : List Shape) → HasRoom most cs sign → nat_le most_deep (length os) ≡ false
       → (at : ℕ) → Step s most end (level df named cs sign Here) os (own 40 ∷ rest) rest (level df named [] None Here) (level df named cs sign Here ∷ os) at
@@ -158,17 +142,9 @@ module _ (s : Setting) (most end : ℕ) (df : Option ℕ) (named : Bool) (cs : L
 
   closing_untold : (at : ℕ) (inside : List Clause) → (length inside == 0) ≡ false
       → IsUntold s.fields most (level df named inside None Here) (level df named cs sign Here ∷ os) at what.Closing
-  unfolding syntax unknown_field bad_number bad_bound unsupported too_deep too_many
-  closing_untold at inside filled = record {
-    syntax = fault_none _ _ (rw (ne_eqb (suc (length os)) 0 (λ e. absurd (omega (arith, e))), filled) refl);
-    field = refl;
-    number = not_long (is_long (kind_for s.fields (level df named inside None Here))) at;
-    from = refl;
-    to = refl;
-    prefix = refl;
-    deep = not_deep (level df named cs sign Here ∷ os) at;
-    many = refl;
-  }
+  unfolding syntax unknown_field too_deep too_many
+  closing_untold at inside filled =
+      bare_untold s.fields most (level df named inside None Here) (level df named cs sign Here ∷ os) at what.Closing (refl, refl, refl, refl) (fault_none _ _ (rw (ne_eqb (suc (length os)) 0 (λ e. absurd (omega (arith, e))), filled) refl)) refl (not_deep (level df named cs sign Here ∷ os) at) refl
 
   pub closing_step : (inside : List Clause) (rest : List Shape) → (length inside == 0) ≡ false
       → (at : ℕ) → Step s most end (level df named inside None Here) (level df named cs sign Here ∷ os) (own 41 ∷ rest) rest

@@ -13,11 +13,10 @@ use Rattle.query_text.specs.declared.op.Op.{Op}
 use Rattle.query_text.specs.declared.level.Clause.{Clause}
 use Rattle.query_text.specs.declared.level.Target.TheVariants.{Here}
 use Rattle.query_text.specs.Clauses.{joined}
-use Rattle.query_text.specs.Readings.{kind_for}
-use Rattle.query_text.specs.Faults.{syntax, unknown_field, is_long, bad_number, bad_bound, unsupported, too_deep, too_many}
+use Rattle.query_text.specs.Faults.{syntax, unknown_field, too_deep, too_many}
 use Rattle.query_text.specs.Reads.{Setting, read_from, query_of, letters_reading, reading}
-use Rattle.query_text.proofs.Steps.{Reads, IsUntold, untold}
-use Rattle.query_text.proofs.Leaves.{level, not_long}
+use Rattle.query_text.proofs.Steps.{Reads, IsUntold, untold, bare_untold}
+use Rattle.query_text.proofs.Leaves.{level}
 
 -- the text of the characters
 abbrev pub bytes_of : List Shape → List ℕ
@@ -31,17 +30,9 @@ length-lay (s ∷ ss) at = let e = length-lay ss (at + width s) in omega arith
 
 module _ (s : Setting) (most end : ℕ) (df : Option ℕ) (named : Bool) (cs : List Clause) where
   finish_untold : IsUntold s.fields most (level df named cs None Here) [] end what.Finish
-  unfolding syntax unknown_field bad_number bad_bound unsupported too_deep too_many
-  finish_untold = record {
-    syntax = refl;
-    field = refl;
-    number = not_long (is_long (kind_for s.fields (level df named cs None Here))) end;
-    from = refl;
-    to = refl;
-    prefix = refl;
-    deep = refl;
-    many = refl;
-  }
+  unfolding syntax unknown_field too_deep too_many
+  finish_untold =
+      bare_untold s.fields most (level df named cs None Here) [] end what.Finish (refl, refl, refl, refl) refl refl refl refl
 
   pub finished : Reads s most end (level df named cs None Here) [] [] (Ok (joined s.op cs))
   unfolding lexemes read_from

@@ -1,8 +1,9 @@
-use Rattle.std.proofs.Common.{◌≡◌, ◌++◌, List, ℕ, [], ◌∷◌, length, length-append, arith, refl, ap, sym, subst, ◌∙◌}
+use Rattle.std.proofs.Common.{◌≡◌, ◌++◌, [], ◌∷◌, length, length-append, arith, refl, ap, sym, subst, ◌∙◌}
 use Rattle.std.specs.Str.{chars, IsUtf8}
 use Rattle.std.specs.Str.Iter.{chars_rest}
-use Rattle.std.proofs.lemmas.Str.{chars-nil, chars_past_char, IsUtf8-past_char}
+use Rattle.std.proofs.lemmas.Str.{chars_past_char, IsUtf8-past_char}
 use Rattle.query_lexemes.specs.Letters.{letters, letters_from}
+use Rattle.query_lexemes.proofs.Characters.{nothing_left}
 use Rattle.query_lexemes.proofs.letter.letters.Goals as goal
 
 pub loop-c-init : goal.loop-c-init
@@ -29,12 +30,7 @@ loop-c-preserved c =
       utf8 = IsUtf8-past_char (chars_rest c.loop-c.c-iterator) rest c.in-Some.c utf8 e;
     }
 
-nil : (xs : List ℕ) → length xs ≡ 0 → xs ≡ []
-nil [] e = refl
-nil (x ∷ xs) e = absurd (omega arith)
-
 pub returns : goal.returns
 returns c =
-    let e = nil (chars_rest c.loop-c.c-iterator) c.in-None.ensures.steps.0.0 in
-    let done : chars (chars_rest c.loop-c.c-iterator) ≡ [] = ap chars e ∙ chars-nil in
+    let done : chars (chars_rest c.loop-c.c-iterator) ≡ [] = nothing_left (chars_rest c.loop-c.c-iterator) c.in-None.ensures.steps.0.0 in
     c.in_ok-add_lone.ensures ∙ ap (λ cs. c.loop-c.found.items ++ letters_from c.loop-c.escaping c.loop-c.at cs) (sym done) ∙ c.loop-c.invariant.whole

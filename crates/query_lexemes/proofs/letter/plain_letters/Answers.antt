@@ -1,11 +1,12 @@
-use Rattle.std.proofs.Common.{◌≡◌, ◌++◌, ◌+◌, List, ℕ, [], ◌∷◌, length, length-append, arith, refl, ap, sym, subst, ◌∙◌}
+use Rattle.std.proofs.Common.{◌≡◌, ◌++◌, ◌+◌, [], ◌∷◌, length, length-append, arith, refl, ap, sym, subst, ◌∙◌}
 use Rattle.std.specs.Char.{len_utf8}
 use Rattle.std.specs.Str.{chars, IsUtf8}
 use Rattle.std.specs.Str.Iter.{chars_rest}
 use Rattle.std.proofs.lemmas.List.{append_assoc, append-nil}
-use Rattle.std.proofs.lemmas.Str.{chars-nil, chars_past_char, IsUtf8-past_char}
+use Rattle.std.proofs.lemmas.Str.{chars_past_char, IsUtf8-past_char}
 use Rattle.query_lexemes.specs.Letters.{plain}
 use Rattle.query_lexemes.specs.SortItems.{plain_from, plain_letters}
+use Rattle.query_lexemes.proofs.Characters.{nothing_left}
 use Rattle.query_lexemes.proofs.letter.plain_letters.Goals as goal
 
 pub loop-c-init : goal.loop-c-init
@@ -32,13 +33,8 @@ loop-c-preserved c =
       utf8 = IsUtf8-past_char (chars_rest c.loop-c.c-iterator) rest c.in-Some.c utf8 e;
     }
 
-nil : (xs : List ℕ) → length xs ≡ 0 → xs ≡ []
-nil [] e = refl
-nil (x ∷ xs) e = absurd (omega arith)
-
 pub returns : goal.returns
 unfolding plain_from
 returns c =
-    let e = nil (chars_rest c.loop-c.c-iterator) c.in-None.ensures.steps.0.0 in
-    let done : chars (chars_rest c.loop-c.c-iterator) ≡ [] = ap chars e ∙ chars-nil in
+    let done : chars (chars_rest c.loop-c.c-iterator) ≡ [] = nothing_left (chars_rest c.loop-c.c-iterator) c.in-None.ensures.steps.0.0 in
     sym (append-nil c.loop-c.found.items) ∙ ap (λ cs. c.loop-c.found.items ++ plain_from c.loop-c.at cs) (sym done) ∙ c.loop-c.invariant.whole
