@@ -8,4 +8,5 @@ pub mod Loops
 pub mod KindsOfQueries
 pub mod Parts
 pub mod Steps
+pub mod Places
 pub mod PhraseSteps

@@ -20,13 +20,13 @@ use Rattle.segment_postings.specs.Terms.{is_before, AreTerms}
 use Rattle.query_eval.specs.declared.span.Span.{Span}
 use Rattle.query_eval.specs.Found.{found}
 use Rattle.query_eval.specs.Kept.{Kept, IsSound}
-use Rattle.query_eval.specs.Runs.{is_place_in, followed_by, from_doc, starts_at_first, DocsRise}
+use Rattle.query_eval.specs.Runs.{is_place_in, followed_by, from_doc, starts_at_first, DocsRise, AllPlacesRise}
 use Rattle.query_eval.specs.Spans.{takes, is_past, first_of, taken_keys}
 use Rattle.query_eval.proofs.Covering.{rest_from, covered}
 use Rattle.query_eval.proofs.Pieces.{Behind, union_assoc, taken_append, none_left}
 use Rattle.query_eval.proofs.SpanKeys.{at_most}
 use Rattle.query_eval.proofs.Verdicts.{found_none}
-use Rattle.query_eval.proofs.Ascents.{skip_same, at_first, rises_from_doc}
+use Rattle.query_eval.proofs.Ascents.{skip_same, at_first, rises_from_doc, rise_from_doc}
 
 -- ---- what stays
 
@@ -105,6 +105,7 @@ pub record Follows (held next : List Posting) (offset i : ℕ) (rest done : List
   pub low : ℕ
   pub ahead : Rises low MAX_DOCS (map (λ p. p.doc) (drop i held))
   pub rising : Rises 0 MAX_DOCS (map (λ p. p.doc) rest)
+  pub places : AllPlacesRise rest
   pub same : (n : ℕ) (p : ℕ × ℕ) → low ≤ n → is_place_in rest n p ≡ is_place_in next n p
   pub done_so_far : done ≡ map (followed_by next offset) (take i held)
 
@@ -162,8 +163,8 @@ walked_whole v ts s field first numbers from most piece more are w all added =
 
 -- ---- the steps along postings
 
-pub follows_start : (held next : List Posting) (offset : ℕ) → DocsRise held → DocsRise next → Follows held next offset 0 next []
-follows_start held next offset h n = record { low = 0; ahead = h; rising = n; same = λ k p l. refl; done_so_far = refl }
+pub follows_start : (held next : List Posting) (offset : ℕ) → DocsRise held → DocsRise next → AllPlacesRise next → Follows held next offset 0 next []
+follows_start held next offset h n r = record { low = 0; ahead = h; rising = n; places = r; same = λ k p l. refl; done_so_far = refl }
 
 filter_agree : {A : Type 0} (p q : A → Bool) → ((x : A) → p x ≡ q x) → (xs : List A) → filter p xs ≡ filter q xs
 filter_agree p q same xs = λ i. filter (λ x. same x i) xs
@@ -176,6 +177,7 @@ follows_more held next offset i rest done h left places f within is skipped kept
       low = suc h.doc;
       ahead = ahead.2;
       rising = subst (λ (ps : List Posting). Rises 0 MAX_DOCS (map (λ p. p.doc) ps)) (sym skipped) (Rises-lower 0 h.doc MAX_DOCS (map (λ p. p.doc) (from_doc h.doc rest)) (omega arith) (rises_from_doc h.doc 0 MAX_DOCS rest f.rising));
+      places = subst (λ (ps : List Posting). AllPlacesRise ps) (sym skipped) (rise_from_doc h.doc rest f.places);
       same = λ n p l. ap (λ ps. is_place_in ps n p) skipped ∙ skip_same h.doc n p rest (omega (arith, l)) ∙ f.same n p (omega (arith, l, low));
       done_so_far =
           (λ j. f.done_so_far j ++ record {

@@ -1,6 +1,6 @@
 -- For private clauses alone: places of words, and which of them the next word follows.
-use Rattle.std.specs.Prelude.{ℕ, ◌+◌, List, [], ◌∷◌, Bool, false, not, ◌&&◌, map, filter, nat_eq, nat_lt, if◌then◌else◌}
-use Rattle.std.specs.List.{list_any}
+use Rattle.std.specs.Prelude.{ℕ, ◌+◌, List, [], ◌∷◌, Bool, false, not, ◌&&◌, ◌||◌, map, filter, nat_eq, nat_lt, if◌then◌else◌, IsTrue}
+use Rattle.std.specs.List.{list_any, list_all}
 use Rattle.doc_sets.specs.Sets.{Rises}
 use Rattle.doc_sets.specs.declared.TheConstants.{MAX_DOCS}
 use Rattle.query_tree.specs.Matches.{is_empty}
@@ -13,6 +13,30 @@ same_place p q = nat_eq q.0 p.0 && nat_eq q.1 p.1
 -- the place is among those
 abbrev pub is_place : ℕ × ℕ → List (ℕ × ℕ) → Bool
 is_place p places = list_any (same_place p) places
+
+-- p stands in an earlier value than q, or before it in the same value
+abbrev pub is_ahead : ℕ × ℕ → ℕ × ℕ → Bool
+is_ahead p q = nat_lt p.0 q.0 || (nat_eq p.0 q.0 && nat_lt p.1 q.1)
+
+-- the places ascend, and each stands once
+abbrev pub PlacesRise : List (ℕ × ℕ) → Type 0
+PlacesRise [] = Unit {0}
+PlacesRise (p ∷ ps) = IsTrue (list_all (is_ahead p) ps) × PlacesRise ps
+
+-- the places of each posting ascend
+abbrev pub AllPlacesRise : List Posting → Type 0
+AllPlacesRise [] = Unit {0}
+AllPlacesRise (h ∷ hs) = PlacesRise h.places × AllPlacesRise hs
+
+-- the places from one on
+abbrev pub from_place : ℕ × ℕ → List (ℕ × ℕ) → List (ℕ × ℕ)
+from_place p [] = []
+from_place p (q ∷ qs) = if is_ahead q p then from_place p qs else q ∷ qs
+
+-- the first of the places is this one
+abbrev pub begins_at : ℕ × ℕ → List (ℕ × ℕ) → Bool
+begins_at p [] = false
+begins_at p (q ∷ qs) = same_place p q
 
 -- the numbers of the postings ascend
 abbrev pub DocsRise : List Posting → Type 0

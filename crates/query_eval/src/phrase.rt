@@ -5,8 +5,9 @@ ghost use Rattle.field_schema.specs.declared.key.Key.TheVariants as key;
 ghost use Rattle.query_eval.specs.Found.{Finds};
 ghost use Rattle.query_eval.specs.Sought.{says_words};
 ghost use Rattle.query_eval.specs.Kept.{Kept, IsSound};
-ghost use Rattle.query_eval.specs.Runs.{followed_by, is_place, same_place, from_doc};
-ghost use Rattle.query_eval.specs.Runs.{starts_here, filled_numbers, DocsRise};
+ghost use Rattle.query_eval.specs.Runs.{followed_by, is_place, same_place, is_ahead, from_doc, from_place};
+ghost use Rattle.query_eval.specs.Runs.{starts_here, begins_at, filled_numbers};
+ghost use Rattle.query_eval.specs.Runs.{DocsRise, PlacesRise, AllPlacesRise};
 
 use doc_sets::{DocNo, DocSet};
 use field_schema::{FieldNo, Key, NoMemory, Text};
@@ -62,6 +63,8 @@ fn followed(
 ) -> Result<Vec<Posting>, NoMemory>
     requires held_rise { DocsRise held.now }
     requires next_rise { DocsRise next.now }
+    requires held_places { AllPlacesRise held.now }
+    requires next_places { AllPlacesRise next.now }
     ensures { IfOk result (λ v. v.items ≡ map (followed_by next.now offset) held.now) }
 {
     let mut found = Vec::with_capacity(alloc, held.len())?;
@@ -99,6 +102,8 @@ fn starts_in(
     next: &[Posting],
     offset: usize,
 ) -> Result<Vec<(u32, u32)>, NoMemory>
+    requires places { PlacesRise posting.now.places }
+    requires next_places { AllPlacesRise next.now }
     ensures { IfOk result (λ v. v.items ≡ starts_here next.now offset posting.now) }
 {
     let Some((first, _)) = next.split_first() else {
@@ -111,34 +116,50 @@ fn starts_in(
     }
 }
 
-// The places that a place of others follows, `offset` tokens on.
+// The places that a place of others follows, `offset` tokens on. It walks both once.
 fn starts(
     alloc: Global,
     places: &[(u32, u32)],
     others: &[(u32, u32)],
     offset: usize,
 ) -> Result<Vec<(u32, u32)>, NoMemory>
+    requires places_rise { PlacesRise places.now }
+    requires others_rise { PlacesRise others.now }
     ensures { IfOk result (λ v. v.items ≡ filter (λ p. is_place (p.0, p.1 + offset) others.now) places.now) }
 {
     let mut found = Vec::new(alloc);
+    let mut rest = others;
     for place in places {
-        if has_place(others, place, offset) {
+        rest = skip_places(rest, place, offset);
+        if begins_at(rest, place, offset) {
             found.push(*place)?;
         }
     }
     Ok(found)
 }
 
-// Whether one of the places is `offset` tokens behind a place.
-fn has_place(others: &[(u32, u32)], place: &(u32, u32), offset: usize) -> bool
-    ensures { result ≡ is_place (place.now.0, place.now.1 + offset) others.now }
+// The places from the one on that is `offset` tokens behind a place.
+fn skip_places<'a>(others: &'a [(u32, u32)], place: &(u32, u32), offset: usize) -> &'a [(u32, u32)]
+    ensures { result.now ≡ from_place (place.now.0, place.now.1 + offset) others.now }
 {
-    for other in others {
-        if is_at(other, place, offset) {
-            return true;
+    let mut rest = others;
+    while let Some((first, later)) = rest.split_first() {
+        if !is_short_of(first, place, offset) {
+            break;
         }
+        rest = later;
     }
-    false
+    rest
+}
+
+// Whether the first of the places is the one that is `offset` tokens behind a place.
+fn begins_at(others: &[(u32, u32)], place: &(u32, u32), offset: usize) -> bool
+    ensures { result ≡ begins_at (place.now.0, place.now.1 + offset) others.now }
+{
+    match others.split_first() {
+        Some((first, _)) => is_at(first, place, offset),
+        None => false,
+    }
 }
 
 // Whether a place is the one that is `offset` tokens behind another.
@@ -146,6 +167,14 @@ fn is_at(other: &(u32, u32), place: &(u32, u32), offset: usize) -> bool
     ensures { result ≡ same_place (place.now.0, place.now.1 + offset) other.now }
 {
     other.0 == place.0 && other.1 >= place.1 && (other.1 - place.1) as usize == offset
+}
+
+// Whether a place stands before the one that is `offset` tokens behind another.
+fn is_short_of(other: &(u32, u32), place: &(u32, u32), offset: usize) -> bool
+    ensures { result ≡ is_ahead other.now (place.now.0, place.now.1 + offset) }
+{
+    other.0 < place.0
+        || (other.0 == place.0 && (other.1 < place.1 || ((other.1 - place.1) as usize) < offset))
 }
 
 // The numbers of the postings that have a place.

@@ -5,6 +5,7 @@ use Rattle.segment_postings.specs.Postings.{postings_of}
 use Rattle.query_eval.specs.Runs.{followed_by}
 use Rattle.query_eval.proofs.Loops.{kept_on}
 use Rattle.query_eval.proofs.PhraseSteps.{says_words, postings_rise, held_rise, first_word, next_word, last_word, no_words}
+use Rattle.query_eval.proofs.Places.{held_places, next_places}
 use Rattle.query_eval.proofs.Steps.{increasing_where, documents_where, set_where}
 use Rattle.query_eval.proofs.phrase.phrase.Goals as goal
 
@@ -24,6 +25,15 @@ followed-requires-clause-held_rise g c =
 pub followed-requires-clause-next_rise : goal.followed-requires-clause-next_rise
 followed-requires-clause-next_rise g c =
     postings_rise (g.P.Reads.view c.args.probe.now) c.args.field (key.Token c.index-others-i.result) c.as_slice-in-loop-i.result.now c.requires.numbered
+    (c.as_slice-in-loop-i.ensures.value ∙ c.in_ok-next.ensures.found ∙ ap (λ (v : Numbered). postings_of v c.args.field (key.Token c.index-others-i.result)) c.loop-i.invariant.1.view)
+
+pub followed-requires-clause-held_places : goal.followed-requires-clause-held_places
+followed-requires-clause-held_places g c =
+    held_places (g.P.Reads.view c.args.probe.now) c.args.field c.args.words.now c.loop-i.i c.as_slice.result.now (c.as_slice.ensures.value ∙ c.loop-i.invariant.0)
+
+pub followed-requires-clause-next_places : goal.followed-requires-clause-next_places
+followed-requires-clause-next_places g c =
+    next_places (g.P.Reads.view c.args.probe.now) c.args.field c.index-others-i.result c.as_slice-in-loop-i.result.now
     (c.as_slice-in-loop-i.ensures.value ∙ c.in_ok-next.ensures.found ∙ ap (λ (v : Numbered). postings_of v c.args.field (key.Token c.index-others-i.result)) c.loop-i.invariant.1.view)
 
 pub loop-i-preserved : goal.loop-i-preserved
