@@ -1,5 +1,5 @@
 -- What a query of each kind finds, by the sets of its parts.
-use Rattle.std.proofs.Common.{◌≡◌, ℕ, ◌<◌, Bool, true, false, not, ◌&&◌, ◌||◌, List, [], ◌∷◌, length, refl, sym, ap, ◌∙◌, arith}
+use Rattle.std.proofs.Common.{◌≡◌, ℕ, Bool, true, false, not, ◌&&◌, ◌||◌, List, [], ◌∷◌, refl, sym, ap, ◌∙◌}
 use Rattle.std.specs.List.{list_any, list_all}
 use Rattle.std.specs.FinSet.{difference}
 use Rattle.std.proofs.lemmas.Bool.{false≢true}
@@ -14,7 +14,7 @@ use Rattle.query_tree.proofs.Matching.{matches_All, matches_Exists, matches_Term
 use Rattle.segment_postings.specs.Numbered.{Numbered, IsNumbered}
 use Rattle.segment_postings.specs.Postings.{has_key_at}
 use Rattle.query_eval.specs.Found.{found, answer, part}
-use Rattle.query_eval.proofs.Verdicts.{and_true, and_false, or_false, found_alike, found_minus}
+use Rattle.query_eval.proofs.Verdicts.{and_true, or_false, found_alike, found_minus}
 
 module _ (v : Numbered) (q : Query) where
   -- a test that says what the query says finds what it finds

@@ -1,6 +1,6 @@
 -- The steps of a phrase: its words so far, and the documents at the end.
-use Rattle.std.proofs.Common.{◌≡◌, ℕ, zero, suc, ◌+◌, ◌<◌, ◌≤◌, Bool, true, false, cond, not, ◌&&◌, List, [], ◌∷◌, ◌++◌, length, get_or, take, map, filter, Some, None, refl, sym, ap, subst, ◌∙◌, arith}
-use Rattle.std.specs.List.{list_any, filter_map, cons_option}
+use Rattle.std.proofs.Common.{◌≡◌, ℕ, zero, suc, ◌+◌, ◌<◌, ◌≤◌, Bool, true, false, cond, not, ◌&&◌, List, [], ◌∷◌, length, get_or, take, map, filter, Some, None, refl, sym, ap, subst, ◌∙◌, arith}
+use Rattle.std.specs.List.{list_any, cons_option}
 use Rattle.std.specs.FinSet.{empty}
 use Rattle.field_schema.specs.declared.key.Key.{Key}
 use Rattle.field_schema.specs.declared.key.Key.TheVariants as key
@@ -11,7 +11,7 @@ use Rattle.doc_sets.specs.declared.TheConstants.{MAX_DOCS}
 use Rattle.query_tree.specs.Matches.{has_words, is_empty}
 use Rattle.segment_postings.specs.declared.posting.Posting.{Posting}
 use Rattle.segment_postings.specs.Numbered.{Numbered, IsNumbered}
-use Rattle.segment_postings.specs.Postings.{has_key_at, posting_of, postings_of}
+use Rattle.segment_postings.specs.Postings.{has_key_at, postings_of}
 use Rattle.query_eval.specs.Found.{numbers_where, found}
 use Rattle.query_eval.specs.Runs.{followed_by, filled_numbers, DocsRise}
 use Rattle.query_eval.proofs.Ascents.{ascending_where}

@@ -1,7 +1,7 @@
 -- Phrases: the places from which a row of words stands in turn, and the texts that have it.
-use Rattle.std.proofs.Common.{◌≡◌, ℕ, zero, suc, ◌+◌, ◌<◌, ◌≤◌, Bool, true, false, cond, not, ◌&&◌, ◌||◌, List, [], ◌∷◌, ◌++◌, length, take, map, filter, Option, Some, None, refl, sym, ap, ◌∙◌, arith, nat_eq, length-append, subst, ◌⊎◌, inl, inr}
-use Rattle.std.specs.List.{list_any, list_all, filter_map, cons_option, flat_map, enumerate_from, starts_with}
-use Rattle.std.proofs.lemmas.Bool.{false≢true, true≢false, and_parts, and_from, or_left, or_right, or_cases, cases_Bool, ne_eqb, eq-eqb, eqb-true}
+use Rattle.std.proofs.Common.{◌≡◌, ℕ, suc, ◌+◌, ◌<◌, ◌≤◌, Bool, true, false, cond, not, ◌&&◌, ◌||◌, List, [], ◌∷◌, ◌++◌, length, take, map, filter, Option, Some, None, refl, sym, ap, ◌∙◌, arith, nat_eq, subst, inl, inr}
+use Rattle.std.specs.List.{list_any, filter_map, cons_option, flat_map, enumerate_from, starts_with}
+use Rattle.std.proofs.lemmas.Bool.{and_parts, and_from, or_left, or_right, or_cases, ne_eqb, eq-eqb}
 use Rattle.std.proofs.lemmas.List.Folds.{list_any-append}
 use Rattle.field_schema.specs.declared.key.Key.{Key}
 use Rattle.field_schema.specs.declared.key.Key.TheVariants as key
@@ -12,14 +12,13 @@ use Rattle.field_schema.specs.Values.{values_at}
 use Rattle.doc_model.specs.Document.{Document}
 use Rattle.doc_sets.specs.Sets.{Rises}
 use Rattle.doc_sets.proofs.Rising.{Rises-lower}
-use Rattle.query_tree.specs.KeysOfDocs.{keys_of_value, keys_in}
+use Rattle.query_tree.specs.KeysOfDocs.{keys_of_value}
 use Rattle.query_tree.specs.Matches.{stand_in, has_words, is_empty}
 use Rattle.segment_postings.specs.declared.posting.Posting.{Posting}
-use Rattle.segment_postings.specs.Numbered.{Numbered, IsNumbered}
-use Rattle.segment_postings.specs.Postings.{indices_of, places_in, places_of, has_key_at, posting_of, postings_of}
-use Rattle.query_eval.specs.Found.{numbers_where, found}
+use Rattle.segment_postings.specs.Postings.{indices_of, places_in, has_key_at, posting_of}
+use Rattle.query_eval.specs.Found.{numbers_where}
 use Rattle.query_eval.specs.Runs.{same_place, is_place, is_place_in, followed_by, filled_numbers}
-use Rattle.query_eval.proofs.Verdicts.{and_false, or_false, doc_of, verdict, passes, absent, settle, found_alike}
+use Rattle.query_eval.proofs.Verdicts.{and_false, or_false, doc_of, verdict, passes, absent, settle}
 use Rattle.query_eval.proofs.Covering.{any_filter, same_tests}
 
 -- the words stand in turn from a place on

@@ -1,18 +1,16 @@
 -- A field's terms in pieces: what a piece adds, and what is left behind it.
-use Rattle.std.proofs.Common.{◌≡◌, ℕ, zero, suc, ◌+◌, ◌<◌, ◌≤◌, Bool, true, false, cond, not, ◌&&◌, ◌||◌, List, [], ◌∷◌, ◌++◌, length, get_or, take, drop, map, filter, refl, sym, ap, subst, ◌∙◌, arith, IsTrue, append_assoc, length-append, nat_eq, Some, None, ◌⊎◌, inl, inr}
+use Rattle.std.proofs.Common.{◌≡◌, ℕ, zero, suc, ◌<◌, ◌≤◌, Bool, true, false, cond, not, ◌&&◌, ◌||◌, List, [], ◌∷◌, ◌++◌, length, take, drop, map, filter, refl, sym, ap, subst, ◌∙◌, arith, append_assoc, length-append, nat_eq, Some, None, ◌⊎◌, inl, inr}
 use Rattle.std.specs.Ordering.{nat_cmp, is_lt}
 use Rattle.std.specs.Cmp.{nat_cmp_total}
-use Rattle.std.specs.List.{list_any, list_all, filter_map}
+use Rattle.std.specs.List.{list_all, filter_map}
 use Rattle.std.specs.List.{cons_option}
 use Rattle.std.specs.declared.cmp.Ordering.{Ordering}
 use Rattle.std.specs.declared.cmp.Ordering.TheVariants.{Less, Equal, Greater}
 use Rattle.field_schema.specs.Values.{values_at}
-use Rattle.std.specs.FinSet.{contains, from_list, union, empty, contains-from_list_nat, contains-union, same_set, nat_cmp-IsAntisymmetric}
+use Rattle.std.specs.FinSet.{contains, from_list, union, contains-from_list_nat, contains-union, same_set, nat_cmp-IsAntisymmetric}
 use Rattle.std.proofs.lemmas.Bool.{false≢true, true≢false, and_parts, and_from, cases_Bool, not-true, not_from_true, not_from_false}
 use Rattle.std.proofs.lemmas.List.{take-append-drop}
 use Rattle.std.proofs.lemmas.List.Folds.{list_any-append, list_all-append}
-use Rattle.std.proofs.Math.ListN.{drop_of_length-le}
-use Rattle.std.proofs.Math.Seq.{take-length}
 use Rattle.field_schema.specs.declared.key.Key.{Key}
 use Rattle.field_schema.specs.Keys.{key_cmp}
 use Rattle.field_schema.specs.Laws.{key_cmp-refl, key_cmp_total}
@@ -25,8 +23,8 @@ use Rattle.query_eval.specs.declared.span.Span.{Span}
 use Rattle.query_eval.specs.Found.{numbers_where, found}
 use Rattle.query_eval.specs.Spans.{takes, is_past, first_of, taken_keys}
 use Rattle.query_eval.proofs.SpanKeys.{at_most, past_none}
-use Rattle.query_eval.proofs.Covering.{rest_from, any_filter}
-use Rattle.query_eval.proofs.Verdicts.{and_false, or_false, found_or, found_alike}
+use Rattle.query_eval.proofs.Covering.{rest_from}
+use Rattle.query_eval.proofs.Verdicts.{or_false, found_or, found_alike}
 
 -- ---- unions
 

@@ -1,6 +1,6 @@
 -- Places ascend, and a walk along two rows of them finds what is in both.
-use Rattle.std.proofs.Common.{◌≡◌, ℕ, zero, suc, ◌+◌, ◌<◌, ◌≤◌, Bool, true, false, cond, not, ◌&&◌, ◌||◌, List, [], ◌∷◌, ◌++◌, length, get_or, take, drop, map, filter, IsTrue, refl, sym, ap, subst, ◌∙◌, arith, nat_eq, nat_lt, Some, None, ◌⊎◌, inl, inr}
-use Rattle.std.specs.List.{list_any, list_all, flat_map, filter_map, enumerate_from, cons_option}
+use Rattle.std.proofs.Common.{◌≡◌, ℕ, zero, suc, ◌+◌, ◌<◌, ◌≤◌, Bool, true, false, cond, ◌&&◌, ◌||◌, List, [], ◌∷◌, ◌++◌, length, get_or, take, drop, map, filter, refl, sym, ap, subst, ◌∙◌, arith, nat_eq, nat_lt, Some, None, inl, inr}
+use Rattle.std.specs.List.{list_all, flat_map, filter_map, enumerate_from, cons_option}
 use Rattle.std.proofs.lemmas.Bool.{and_parts, and_from, cases_Bool, lt-ltb}
 use Rattle.std.proofs.lemmas.List.Concat.{flat_map-cons}
 use Rattle.std.proofs.lemmas.List.{append_assoc, append-nil}

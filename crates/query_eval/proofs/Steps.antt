@@ -1,10 +1,10 @@
 -- The last steps of functions.
-use Rattle.std.proofs.Common.{Bor, ◌≡◌, ℕ, suc, ◌+◌, ◌<◌, ◌≤◌, Bool, true, false, cond, not, ◌&&◌, ◌||◌, List, [], ◌∷◌, ◌++◌, length, get_or, take, drop, map, filter, nat_eq, All, refl, sym, ap, subst, ◌∙◌, arith}
+use Rattle.std.proofs.Common.{Bor, ◌≡◌, ℕ, ◌+◌, ◌<◌, Bool, true, false, ◌&&◌, ◌||◌, List, [], ◌∷◌, ◌++◌, length, get_or, take, drop, map, filter, nat_eq, All, refl, sym, ap, subst, ◌∙◌, arith}
 use Rattle.std.specs.List.{list_any, list_all, starts_with}
 use Rattle.std.specs.List.Sorted.{IsStrictlyIncreasing}
 use Rattle.std.specs.Cmp.{nat_cmp_total}
 use Rattle.std.specs.Ordering.{nat_cmp}
-use Rattle.std.specs.FinSet.{contains, from_list, intersection, difference, union, empty, contains-intersection, contains-union, contains-from_list_nat, same_set, nat_cmp-IsAntisymmetric}
+use Rattle.std.specs.FinSet.{contains, from_list, intersection, difference, union, contains-intersection, contains-union, contains-from_list_nat, same_set, nat_cmp-IsAntisymmetric}
 use Rattle.std.proofs.lemmas.List.Folds.{list_all_more, Any-from_list_any}
 use Rattle.std.proofs.lemmas.Bool.{eqb-true, true≢false}
 use Rattle.doc_model.specs.Document.{Document}
@@ -14,12 +14,11 @@ use Rattle.query_tree.specs.KeysOfDocs.{keys_in}
 use Rattle.query_tree.specs.Matches.{has_key, has_prefix, is_empty, is_negative, matches}
 use Rattle.query_tree.specs.declared.query.Query.{Query}
 use Rattle.query_tree.specs.declared.query.Query.TheViews as query
-use Rattle.doc_sets.specs.Sets.{Numbers, AreDocuments, IsAscending}
+use Rattle.doc_sets.specs.Sets.{Numbers, AreDocuments}
 use Rattle.doc_sets.specs.declared.TheConstants.{MAX_DOCS}
 use Rattle.doc_sets.proofs.Members.{increasing, all_documents}
 use Rattle.segment_postings.specs.declared.posting.Posting.{Posting}
 use Rattle.segment_postings.specs.Numbered.{Numbered, IsNumbered, numbers}
-use Rattle.segment_postings.specs.Postings.{has_key_at}
 use Rattle.query_eval.specs.declared.span.Span.{Span}
 use Rattle.query_eval.specs.declared.span.Span.TheVariants.{Strings, Tokens}
 use Rattle.query_eval.specs.Found.{numbers_where, found, part, answer}

@@ -1,10 +1,9 @@
-use Rattle.std.proofs.Common.{◌≡◌, not, ◌&&◌, map, sym, ap, ◌∙◌}
+use Rattle.std.proofs.Common.{not, ◌&&◌, map, ap, ◌∙◌}
 use Rattle.std.specs.List.{list_any}
 use Rattle.std.specs.FinSet.{difference}
 use Rattle.std.proofs.lemmas.Result.{IfOk-weaker}
 use Rattle.field_schema.specs.Values.{values_at}
 use Rattle.query_tree.specs.Matches.{has_words, is_empty}
-use Rattle.segment_postings.specs.Numbered.{Numbered}
 use Rattle.query_eval.specs.Found.{found, part}
 use Rattle.doc_sets.specs.Sets.{Numbers}
 use Rattle.query_eval.proofs.KindsOfQueries.{part_All, part_Words, part_Prefix, part_Range}

@@ -1,8 +1,7 @@
-use Rattle.std.proofs.Common.{◌≡◌, ◌+◌, ◌<◌, ◌≤◌, length, sym, ap, subst, ◌∙◌, arith}
+use Rattle.std.proofs.Common.{◌<◌, ◌≤◌, length, ap, ◌∙◌, arith}
 use Rattle.field_schema.specs.declared.key.Key.TheVariants as key
 use Rattle.segment_postings.specs.Numbered.{Numbered}
 use Rattle.segment_postings.specs.Postings.{postings_of}
-use Rattle.query_eval.specs.Runs.{followed_by}
 use Rattle.query_eval.proofs.Loops.{kept_on}
 use Rattle.query_eval.proofs.PhraseSteps.{says_words, postings_rise, held_rise, first_word, next_word, last_word, no_words}
 use Rattle.query_eval.proofs.Places.{held_places, next_places}

@@ -1,4 +1,4 @@
-use Rattle.std.proofs.Common.{◌≡◌, ◌+◌, ◌<◌, length, get_or, sym, subst, ap, ◌∙◌, arith, List, ℕ}
+use Rattle.std.proofs.Common.{◌+◌, ◌<◌, length, get_or, sym, subst, ap, ◌∙◌, arith, List, ℕ}
 use Rattle.query_eval.proofs.Places.{Starts, starts_more, starts_same, same_at}
 use Rattle.query_eval.proofs.phrase.starts.Goals.{then-begins_at+in_ok-push, else-begins_at}
 use Rattle.query_eval.proofs.phrase.starts.Goals as goal

@@ -1,7 +1,6 @@
 use Rattle.std.proofs.Common.{◌≡◌, ℕ, Vec, Global, ◌+◌, ◌<◌, length, take, map, List, ◌∷◌, [], ◌++◌, refl, sym, ap, subst, ◌∙◌, arith}
 use Rattle.std.specs.Ordering.{nat_cmp}
 use Rattle.std.specs.FinSet.{from_list, union}
-use Rattle.field_schema.specs.declared.key.Key.{Key}
 use Rattle.segment_postings.specs.Numbered.{Numbered}
 use Rattle.segment_postings.specs.Postings.{postings_of}
 use Rattle.query_eval.specs.Found.{found}

@@ -1,4 +1,4 @@
-use Rattle.std.proofs.Common.{ap, ◌∙◌, ◌++◌, map}
+use Rattle.std.proofs.Common.{ap, ◌∙◌, map}
 use Rattle.segment_postings.specs.Postings.{has_key_at}
 use Rattle.query_eval.proofs.Pieces.{posting_numbers}
 use Rattle.query_eval.proofs.Steps.{only_added, increasing_where, documents_where, set_where}
