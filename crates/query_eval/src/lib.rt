@@ -11,6 +11,3 @@ mod walk;
 
 pub use evaluating::eval;
 pub use matching::matches;
-
-#[cfg(test)]
-mod tests;
