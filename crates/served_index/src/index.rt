@@ -1,4 +1,4 @@
-ghost use Rattle.std.specs.Prelude.{◌≡◌, ◌<◌, ◌≤◌, ◌+◌, [], OnOk, OnErr, IfOk, length, map, take, drop};
+ghost use Rattle.std.specs.Prelude.{◌≡◌, ◌<◌, ◌≤◌, ◌+◌, ◌^◌, [], OnOk, OnErr, IfOk, length, map, take, drop};
 ghost use Rattle.std.specs.Arc.{arc_value};
 ghost use Rattle.search_model.specs.Live.{added, deleted_id, deleted_query, after};
 ghost use Rattle.served_index.specs.IndexState.{hits};
@@ -223,6 +223,7 @@ fn pair_to_merge(view: &View) -> u32
 
 // Whether the segment at a place is fewer times as large as the next one than it is so at another place.
 fn is_less_steep(view: &View, at: u32, other: u32) -> bool
+    requires few { length view.now.keys < 2 ^ 32 }
     requires at { at + 1 < length view.now.keys }
     requires other { other + 1 < length view.now.keys }
 {
