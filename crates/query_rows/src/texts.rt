@@ -356,17 +356,9 @@ fn default_field(word: &str) -> Option<FieldNo> {
 
 // The fault's name and place.
 fn fault_text(alloc: Global, fault: QueryFault) -> Result<String, Fail> {
-    let (name, at) = match fault {
-        QueryFault::Syntax { at } => ("Syntax", at),
-        QueryFault::UnknownField { at } => ("UnknownField", at),
-        QueryFault::BadNumber { at } => ("BadNumber", at),
-        QueryFault::Unsupported { at } => ("Unsupported", at),
-        QueryFault::BadLocal { at } => ("BadLocal", at),
-        QueryFault::TooDeep { at } => ("TooDeep", at),
-        QueryFault::TooManyClauses { at } => ("TooManyClauses", at),
-        QueryFault::NoMemory => ("NoMemory", 0),
-    };
-    Ok(format!(in alloc; "{name} {at}")?)
+    let shown = format!(in alloc; "{fault:?}")?;
+    let (name, rest) = shown.split_once(" { at: ").unwrap_or((shown.as_str(), ""));
+    Ok(format!(in alloc; "{name} {}", rest.trim_end_matches(" }"))?)
 }
 
 // What a row's text is read with: `t A 7` is the field `t`, And, and at most 7 clauses.

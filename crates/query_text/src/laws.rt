@@ -38,15 +38,15 @@ pub fn readable()
     ensures { (fields : List Field) → ReadablePrintsBack fields }
 {}
 
-/// Each query that a text reads to is readable, whatever the operator, under the limit on clauses under which it was
-/// read.
+/// Each query that a text reads to is readable, whatever the operator, with an indexed default field or none, under
+/// the limit on clauses under which it was read.
 pub fn what_reads_is_readable()
     ensures { ReadIsReadable }
 {}
 
 /// The printed text of each query that a text reads to reads to it with `Or`, whatever the default field, under
-/// the limit on clauses under which it was read. The operator, the default field and the local parameters of
-/// the first reading are free.
+/// the limit on clauses under which it was read. The operator and the local parameters of the first reading are free;
+/// its default field is none or an indexed one.
 pub fn printed_reads_back()
     ensures { PrintedReadsBack }
 {}

@@ -285,8 +285,9 @@ fn write_signed(
     Ok(())
 }
 
-/// The text of a query. Where `parse` gave the query, whatever the operator and the default field, it gives it again
-/// for this text with `Or`, under the same limit on clauses: that is `laws::printed_reads_back`.
+/// The text of a query. Where `parse` gave the query, with any operator and an indexed default field or none, it
+/// gives it again for this text with `Or` and any default field, under the same limit on clauses: that is
+/// `laws::printed_reads_back`.
 ///
 /// It costs the text's length, and three stack frames a level; parsed queries are at most 65
 /// levels deep.
