@@ -5,8 +5,8 @@ use Rattle.std.specs.Prelude.{◌&&◌, ◌==◌, nat_le}
 use Rattle.query_tree.specs.declared.query.Query.{Query}
 use Rattle.query_lexemes.specs.declared.lexeme.What.TheVariants as what
 use Rattle.query_lexemes.specs.Letters.{is_blank, is_white, is_special, is_plus}
-use Rattle.query_lexemes.specs.Lexemes.{right}
-use Rattle.query_lexemes.proofs.Shapes.{Shape, end_of, spelled, Stops}
+use Rattle.query_lexemes.specs.Lexemes.{right, lexeme}
+use Rattle.query_lexemes.proofs.Shapes.{Shape, lay, end_of, spelled, Stops}
 use Rattle.query_lexemes.proofs.Pieces.{own, IsBehind, IsWord, prefix_is, nothing_skipped, required_is, prohibited_is, opening_is, closing_is}
 use Rattle.query_lexemes.proofs.Ranges.{bracket, ends, end_bound, end_text, upper_place, behind_end, range_is}
 use Rattle.query_text.specs.declared.level.Level.{Level}
@@ -17,7 +17,7 @@ use Rattle.query_text.specs.declared.level.Target.TheVariants.{Here, To}
 use Rattle.query_text.specs.Clauses.{joined}
 use Rattle.query_text.specs.Readings.{kind_at, prefix, range, value_in}
 use Rattle.query_text.specs.Faults.{syntax, unknown_field, is_long, is_no_number, bad_number, bad_bound, unsupported, is_whole, too_deep, most_deep, too_many}
-use Rattle.query_text.specs.Reads.{Setting, after, value}
+use Rattle.query_text.specs.Reads.{Setting, sign_of, after, value}
 use Rattle.query_text.proofs.Steps.{Step, IsUntold, bare_untold, untold, fault_none}
 use Rattle.query_text.proofs.Leaves.{level, HasRoom, more, not_deep, not_long, begins_no_blank}
 
@@ -97,29 +97,26 @@ module _ (s : Setting) (most end : ℕ) (df : Option ℕ) (named : Bool) (cs : L
   sign_untold at prohibits room =
       bare_untold s.fields most (level df named cs None Here) os at (what.Sign prohibits) (refl, refl, refl, refl) refl refl (not_deep os at) (rw room refl)
 
-  pub required_step : (rest : List Shape) → HasRoom most cs None
-      → (at : ℕ) → Step s most end (level df named cs None Here) os (own 43 ∷ rest) rest (level df named cs (Some Required) Here) os at
+  sign_step : (c : ℕ) (prohibits : Bool) (rest : List Shape) → HasRoom most cs None → is_white c ≡ false
+      → ((at : ℕ) → lexeme end (lay at (own c ∷ rest)) ≡ (right at (what.Sign prohibits), lay (at + 1) rest))
+      → (at : ℕ) → Step s most end (level df named cs None Here) os (own c ∷ rest) rest (level df named cs (Some (sign_of prohibits)) Here) os at
   unfolding after
-  required_step rest room at = record {
+  sign_step c prohibits rest room black is at = record {
     next = at + 1;
-    front = right at (what.Sign false);
-    reads = rw (nothing_skipped (own 43 ∷ rest) at (λ at. refl)) (required_is end at rest);
-    untold = untold s.fields most (level df named cs None Here) os at _ (sign_untold at false room);
+    front = right at (what.Sign prohibits);
+    reads = rw (nothing_skipped (own c ∷ rest) at (λ at. black)) (is at);
+    untold = untold s.fields most (level df named cs None Here) os at _ (sign_untold at prohibits room);
     goes_on = refl;
     after = refl;
   }
 
+  pub required_step : (rest : List Shape) → HasRoom most cs None
+      → (at : ℕ) → Step s most end (level df named cs None Here) os (own 43 ∷ rest) rest (level df named cs (Some Required) Here) os at
+  required_step rest room = sign_step 43 false rest room refl (λ at. required_is end at rest)
+
   pub prohibited_step : (rest : List Shape) → HasRoom most cs None
       → (at : ℕ) → Step s most end (level df named cs None Here) os (own 45 ∷ rest) rest (level df named cs (Some Prohibited) Here) os at
-  unfolding after
-  prohibited_step rest room at = record {
-    next = at + 1;
-    front = right at (what.Sign true);
-    reads = rw (nothing_skipped (own 45 ∷ rest) at (λ at. refl)) (prohibited_is end at rest);
-    untold = untold s.fields most (level df named cs None Here) os at _ (sign_untold at true room);
-    goes_on = refl;
-    after = refl;
-  }
+  prohibited_step rest room = sign_step 45 true rest room refl (λ at. prohibited_is end at rest)
 
 module _ (s : Setting) (most end : ℕ) (df : Option ℕ) (named : Bool) (cs : List Clause) (sign : Option Sign) (os : List Level) where
   opening_untold : (at : ℕ) → HasRoom most cs sign → nat_le most_deep (length os) ≡ false
