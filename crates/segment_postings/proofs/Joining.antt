@@ -53,7 +53,7 @@ put_behind (x ∷ b) r k before =
     ∙ ap (λ ys. x ∷ ys) (put_behind b r k (All-tail (λ y. is_before y k ≡ true) x b before))
 
 -- at the front, where the key stands there already
-put_tied : (r : List Key) (k : Key) → begins_with k r ≡ true → put_key r k ≡ r
+pub put_tied : (r : List Key) (k : Key) → begins_with k r ≡ true → put_key r k ≡ r
 put_tied [] k e = absurd (cc)
 put_tied (x ∷ xs) k e = ap (λ o. match_ordering o (k ∷ x ∷ xs) (x ∷ xs) (x ∷ put_key xs k)) (equal_is (key_cmp k x) (sym (key_cmp_ties k x) ∙ e))
 

@@ -10,3 +10,4 @@ pub mod TermsOfViews
 pub mod DocsOfViews
 pub mod Merging
 pub mod Packed
+pub mod Laying

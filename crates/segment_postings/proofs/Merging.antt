@@ -1,14 +1,13 @@
 -- Two neighbouring parts as one.
-use Rattle.std.proofs.Common.{◌≡◌, ℕ, zero, suc, ◌+◌, ◌<◌, ◌≤◌, Bool, true, false, ◌||◌, List, [], ◌∷◌, ◌++◌, length, get_or, take, drop, refl, sym, ap, subst, ◌∙◌, append_assoc, arith, All, length-append}
+use Rattle.std.proofs.Common.{◌≡◌, ℕ, zero, suc, ◌+◌, ◌<◌, Bool, true, false, ◌||◌, List, [], ◌∷◌, ◌++◌, length, get_or, take, drop, refl, sym, ap, ◌∙◌, append_assoc, arith, All}
 use Rattle.std.specs.Ordering.{nat_cmp}
 use Rattle.std.specs.Cmp.{nat_cmp_total}
 use Rattle.std.specs.FinSet.{contains, empty, union, contains-union, contains-empty, same_set, nat_cmp-IsAntisymmetric}
 use Rattle.std.proofs.lemmas.List.Concat.{flat_map-append}
-use Rattle.std.proofs.lemmas.List.Elements.{All-append, All-cons, All-head, All-tail}
+use Rattle.std.proofs.lemmas.List.Elements.{All-cons, All-head, All-tail}
 use Rattle.doc_sets.specs.Sets.{Numbers}
-use Rattle.doc_sets.specs.declared.TheConstants.{MAX_DOCS}
-use Rattle.segment_postings.specs.Segments.{Part, IsPart}
-use Rattle.segment_postings.specs.Views.{all_docs, IsView, Merges}
+use Rattle.segment_postings.specs.Segments.{Part}
+use Rattle.segment_postings.specs.Views.{all_docs}
 
 or_false : (b : Bool) → (b || false) ≡ b
 or_false true = refl

@@ -1,11 +1,10 @@
 -- Documents that are packed, and their numbers.
-use Rattle.std.proofs.Common.{◌≡◌, ℕ, zero, suc, ◌+◌, ◌-◌, ◌<◌, ◌≤◌, Bool, true, false, ◌||◌, cond, List, [], ◌∷◌, ◌++◌, length, get_or, take, drop, map, filter, refl, sym, ap, subst, ◌∙◌, append_assoc, arith, All, inl, inr, Some, Option, IsSome, length-append, ltb}
+use Rattle.std.proofs.Common.{◌≡◌, ℕ, zero, suc, ◌+◌, ◌-◌, ◌<◌, ◌≤◌, Bool, true, false, ◌||◌, cond, List, [], ◌∷◌, ◌++◌, length, get_or, take, drop, map, filter, refl, sym, ap, subst, ◌∙◌, append_assoc, arith, All, inl, inr, Some, IsSome, length-append, ltb}
 use Rattle.std.specs.Prelude.{sum, slice_get}
-use Rattle.std.specs.List.{enumerate_from, range_with_len, flat_map}
-use Rattle.std.specs.Ordering.{nat_cmp}
+use Rattle.std.specs.List.{enumerate_from, range_with_len}
 use Rattle.std.specs.FinSet.{contains, from_list, contains-from_list_nat}
 use Rattle.std.proofs.lemmas.List.{map-append, append-nil, length-map, take-map, drop-drop, take-append-drop, length-take-le, length-drop}
-use Rattle.std.proofs.lemmas.List.Elements.{filter-append, All-cons, All-append}
+use Rattle.std.proofs.lemmas.List.Elements.{filter-append, All-append}
 use Rattle.std.proofs.lemmas.List.Concat.{flat_map-append}
 use Rattle.std.proofs.lemmas.List.Sums.{sum_by-cons}
 use Rattle.std.proofs.lemmas.Bool.{lt-ltb, le-ltb}

@@ -2,7 +2,7 @@
 use Rattle.std.proofs.Common.{◌≡◌, ℕ, ◌+◌, ◌<◌, ◌≤◌, Bool, true, false, cond, not, ◌&&◌, ◌||◌, List, [], ◌∷◌, ◌++◌, length, take, get_or, map, filter, fold, nat_eq, refl, sym, ap, subst, ◌∙◌, append_assoc, arith, Some, None}
 use Rattle.std.specs.List.{enumerate_from, flat_map, filter_map, list_any, cons_option}
 use Rattle.std.specs.FinSet.{contains}
-use Rattle.std.proofs.lemmas.List.{append-nil, map-append, take_more}
+use Rattle.std.proofs.lemmas.List.{append-nil, map-append, take_more, get_or_default}
 use Rattle.std.proofs.lemmas.List.Elements.{filter-append, filter_map-append}
 use Rattle.std.proofs.lemmas.List.Sums.{fold-append}
 use Rattle.std.proofs.lemmas.Bool.{ne_eqb}
@@ -60,11 +60,15 @@ pub put_past_last : (old ps new : List Posting) (p : Posting) (doc : ℕ) (more 
 put_past_last old ps new p doc more is now other = ap (λ qs. put_place qs doc more) is ∙ last_differs ps p doc more (ne_eqb p.doc doc other) ∙ ap (λ qs. qs ++ record { doc = doc; places = more } ∷ []) (sym now)
 
 -- a step of the loop
-pub gathered_more : (live : Numbers) (base : ℕ) (t : Bool) (new found init : List Posting) (os : List Occurrence) (i : ℕ) (o : Occurrence) → i < length os → o ≡ get_or os i o → new ≡ gather_one live base t found o → found ≡ gathered live base t init (take i os) → new ≡ gathered live base t init (take (i + 1) os)
+gathered_more : (live : Numbers) (base : ℕ) (t : Bool) (new found init : List Posting) (os : List Place) (i : ℕ) (o : Place) → i < length os → o ≡ get_or os i o → new ≡ gather_one live base t found o → found ≡ gathered live base t init (take i os) → new ≡ gathered live base t init (take (i + 1) os)
 gathered_more live base t new found init os i o h e here so_far =
     here ∙ ap (λ ps. gather_one live base t ps o) so_far
     ∙ sym (fold-append (gather_one live base t) init (take i os) (o ∷ []))
     ∙ ap (λ xs. gathered live base t init xs) (ap (λ x. take i os ++ x ∷ []) e ∙ sym (take_more os i o h))
+
+pub gathered_place : (live : Numbers) (base : ℕ) (t : Bool) (new found init : List Posting) (os : List Place) (i : ℕ) (d : Place) → i < length os → new ≡ gather_one live base t found (get_or os i d) → found ≡ gathered live base t init (take i os) → new ≡ gathered live base t init (take (i + 1) os)
+gathered_place live base t new found init os i d h here so_far =
+    gathered_more live base t new found init os i (get_or os i d) h (get_or_default os i d (get_or os i d) h) here so_far
 
 pub EndsBefore-push : (ps : List Posting) (n : ℕ) (p : Posting) → p.doc < n → EndsBefore n (ps ++ p ∷ [])
 EndsBefore-push [] n p h = h
@@ -148,10 +152,6 @@ told_of (key.Token text) vs = all_told (places_in (key.Token text) vs)
 
 -- ---- gathering
 
-fold-map : {A B C : Type 0} (f : C → B → C) (g : A → B) (c : C) (xs : List A) → fold (λ s x. f s (g x)) c xs ≡ fold f c (map g xs)
-fold-map f g c [] = refl
-fold-map f g c (x ∷ xs) = fold-map f g (f c (g x)) xs
-
 module _ (live : Numbers) (base : ℕ) (t : Bool) where
   abbrev step : List Posting → Place → List Posting
   step ps p = cond (contains live (base + p.doc)) (put_place ps (base + p.doc) (told t (p.value, p.token))) ps
@@ -220,15 +220,17 @@ module _ (live : Numbers) (base : ℕ) (t : Bool) where
 
     -- the occurrences of the key in documents give the postings of those that are live
     pub gathered_docs : (ps : List Posting) (n : ℕ) (ds : List Document) → EndsBefore (base + n) ps →
-        gathered live base t ps (with_key k (flat_map (of_doc field) (enumerate_from n ds))) ≡ ps ++ filter_map (posting_of field k) (filter (λ e. contains live e.0) (enumerate_from (base + n) ds))
+        gathered live base t ps (map (λ o. o.place) (with_key k (flat_map (of_doc field) (enumerate_from n ds)))) ≡ ps ++ filter_map (posting_of field k) (filter (λ e. contains live e.0) (enumerate_from (base + n) ds))
     gathered_docs ps n [] before = sym (append-nil ps)
     gathered_docs ps n (d ∷ ds) before =
+        let place = λ (o : Occurrence). o.place in
         let first : List Occurrence = with_key k (of_doc field (n, d)) in
         let rest : List Occurrence = with_key k (flat_map (of_doc field) (enumerate_from (n + 1) ds)) in
         let next : base + (n + 1) ≡ base + n + 1 = omega arith in
-        ap (gathered live base t ps) (filter-append (λ o. key_eq k o.key) (of_doc field (n, d)) (flat_map (of_doc field) (enumerate_from (n + 1) ds)))
-        ∙ fold-append (gather_one live base t) ps first rest
-        ∙ ap (λ s. fold (gather_one live base t) s rest) (fold-map step (λ (o : Occurrence). o.place) ps first ∙ ap (fold step ps) (of_values k n (enumerate_from 0 (values_at d.values field))) ∙ doc_gathered ps n d before)
+        ap (λ os. gathered live base t ps (map place os)) (filter-append (λ o. key_eq k o.key) (of_doc field (n, d)) (flat_map (of_doc field) (enumerate_from (n + 1) ds)))
+        ∙ ap (gathered live base t ps) (map-append place first rest)
+        ∙ fold-append (gather_one live base t) ps (map place first) (map place rest)
+        ∙ ap (λ s. fold (gather_one live base t) s (map place rest)) (ap (fold step ps) (of_values k n (enumerate_from 0 (values_at d.values field))) ∙ doc_gathered ps n d before)
         ∙ gathered_docs (ps ++ piece n d) (n + 1) ds (piece_before ps n d before)
         ∙ ap (λ m. (ps ++ piece n d) ++ filter_map (posting_of field k) (filter (λ e. contains live e.0) (enumerate_from m ds))) next
         ∙ append_assoc ps (piece n d) _

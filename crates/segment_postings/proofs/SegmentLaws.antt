@@ -2,7 +2,7 @@
 use Rattle.std.proofs.Common.{◌≡◌, ℕ, zero, suc, ◌+◌, ◌<◌, ◌≤◌, Bool, true, false, not, ◌||◌, cond, List, [], ◌∷◌, ◌++◌, length, get_or, map, filter, refl, sym, ap, subst, ◌∙◌, arith, All}
 use Rattle.std.specs.List.{enumerate_from, flat_map, filter_map, list_any}
 use Rattle.std.specs.FinSet.{contains}
-use Rattle.std.proofs.lemmas.List.Elements.{All-filter, All-append, All-head, All-tail, filter-append, All-cons}
+use Rattle.std.proofs.lemmas.List.Elements.{All-filter, All-map, All-append, All-head, All-tail, filter-append, All-cons}
 use Rattle.std.proofs.lemmas.Bool.Decides.{eqb_tells, leb_tells}
 use Rattle.std.proofs.Common.{inl, inr}
 use Rattle.field_schema.specs.declared.key.Key.{Key}
@@ -22,7 +22,7 @@ use Rattle.segment_postings.proofs.PostingsGathered.{gathered_docs, any_place, o
 
 -- ---- fields without values
 
-past_end : {A : Type 0} (xs : List A) (i : ℕ) (d : A) → length xs ≤ i → get_or xs i d ≡ d
+pub past_end : {A : Type 0} (xs : List A) (i : ℕ) (d : A) → length xs ≤ i → get_or xs i d ≡ d
 past_end [] i d h = refl
 past_end (x ∷ xs) zero d h = absurd (omega arith)
 past_end (x ∷ xs) (suc i) d h = past_end xs i d (omega arith)
@@ -131,17 +131,18 @@ docs_below k field n m [] h = λ j d l. absurd (omega arith)
 docs_below k field n m (d ∷ ds) h =
     All-append (λ o. o.place.doc < m) (of_doc field (n, d)) (flat_map (of_doc field) (enumerate_from (n + 1) ds)) (doc_below k n m (enumerate_from 0 (values_at d.values field)) (omega arith)) (docs_below k field (n + 1) m ds (omega arith))
 
-pub key_below : (ds : List Document) (fs : List (List Occurrence)) (field base : ℕ) (k : Key) → AreIndexes ds fs → base + length ds ≤ MAX_DOCS → All (λ o. base + o.place.doc < MAX_DOCS) (with_key k (field_at fs field))
+pub key_below : (ds : List Document) (fs : List (List Occurrence)) (field base : ℕ) (k : Key) → AreIndexes ds fs → base + length ds ≤ MAX_DOCS → All (λ p. base + p.doc < MAX_DOCS) (map (λ o. o.place) (with_key k (field_at fs field)))
 key_below ds fs field base k is most =
     let below = docs_below k field 0 (length ds) ds (omega arith) in
-    subst (All (λ o. base + o.place.doc < MAX_DOCS)) (sym ((is field).same k))
-    (All-filter (λ o. key_eq k o.key) (λ o. base + o.place.doc < MAX_DOCS) (occurrences field ds) (λ j d l. omega (arith, below j d l)))
+    subst (λ os. All (λ p. base + p.doc < MAX_DOCS) (map (λ o. o.place) os)) (sym ((is field).same k))
+    (All-map (λ p. base + p.doc < MAX_DOCS) (λ o. o.place) (with_key k (occurrences field ds))
+    (All-filter (λ o. key_eq k o.key) (λ o. base + o.place.doc < MAX_DOCS) (occurrences field ds) (λ j d l. omega (arith, below j d l))))
 
 pub part_gathers : (ds : List Document) (fs : List (List Occurrence)) (field base : ℕ) (k : Key) (live : Numbers) (found : List Posting) → AreIndexes ds fs → EndsBefore base found →
-    gathered live base (has_places k) found (with_key k (field_at fs field)) ≡ found ++ filter_map (posting_of field k) (filter (λ e. contains live e.0) (enumerate_from base ds))
+    gathered live base (has_places k) found (map (λ o. o.place) (with_key k (field_at fs field))) ≡ found ++ filter_map (posting_of field k) (filter (λ e. contains live e.0) (enumerate_from base ds))
 part_gathers ds fs field base k live found is before =
     let start : base + 0 ≡ base = omega arith in
-    ap (gathered live base (has_places k) found) ((is field).same k)
+    ap (λ os. gathered live base (has_places k) found (map (λ o. o.place) os)) ((is field).same k)
     ∙ gathered_docs live base (has_places k) k field refl found 0 ds (subst (λ m. EndsBefore m found) (sym start) before)
     ∙ ap (λ m. found ++ filter_map (posting_of field k) (filter (λ e. contains live e.0) (enumerate_from m ds))) start
 

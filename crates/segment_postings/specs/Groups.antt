@@ -5,7 +5,6 @@ use Rattle.field_schema.specs.declared.key.Key.{Key}
 use Rattle.field_schema.specs.declared.key.Key.TheVariants as key
 use Rattle.doc_sets.specs.Sets.{Numbers}
 use Rattle.segment_postings.specs.declared.posting.Posting.{Posting}
-use Rattle.segment_postings.specs.declared.occurrence.Occurrence.{Occurrence}
 use Rattle.segment_postings.specs.declared.occurrence.Place.{Place}
 
 -- the last posting, if any, stands before a number
@@ -32,13 +31,13 @@ put_place (p ∷ q ∷ ps) doc places = p ∷ put_place (q ∷ ps) doc places
 abbrev pub told_at : Bool → Place → List (ℕ × ℕ)
 told_at told place = if told then (place.value, place.token) ∷ [] else []
 
--- an occurrence more, where its document is live
-abbrev pub gather_one : Numbers → ℕ → Bool → List Posting → Occurrence → List Posting
-gather_one live base told ps o =
-    if contains live (base + o.place.doc)
-    then put_place ps (base + o.place.doc) (told_at told o.place)
+-- a place more, where its document is live
+abbrev pub gather_one : Numbers → ℕ → Bool → List Posting → Place → List Posting
+gather_one live base told ps p =
+    if contains live (base + p.doc)
+    then put_place ps (base + p.doc) (told_at told p)
     else ps
 
--- the postings of occurrences that stand in the order of their documents
-abbrev pub gathered : Numbers → ℕ → Bool → List Posting → List Occurrence → List Posting
-gathered live base told ps os = fold (gather_one live base told) ps os
+-- the postings of places that stand in the order of their documents
+abbrev pub gathered : Numbers → ℕ → Bool → List Posting → List Place → List Posting
+gathered live base told ps places = fold (gather_one live base told) ps places

@@ -4,3 +4,4 @@ pub mod Terms
 pub mod Segments
 pub mod Views
 pub mod Groups
+pub mod Layout

@@ -3,13 +3,13 @@ ghost use Rattle.std.specs.Prelude.{◌≡◌, ℕ, ◌+◌, ◌<◌, List, ◌�
 ghost use Rattle.doc_sets.specs.declared.TheConstants.{MAX_DOCS};
 ghost use Rattle.segment_postings.specs.Groups.{has_places, gathered, gather_one, put_place, told_at};
 
-use crate::occurrence::{Occurrence, Place};
+use crate::occurrence::Place;
 use crate::posting::{Places, Posting};
 use doc_sets::{DocNo, DocSet};
 use field_schema::{Key, NoMemory};
 use std::alloc::Global;
 
-/// Adds what is told of a key's occurrences in live documents, of which the first has the number `base`, and which
+/// Adds what is told of a key's places in live documents, of which the first has the number `base`, and which
 /// are fewer than `count`. It costs their number.
 pub(crate) fn gather(
     alloc: Global,
@@ -17,35 +17,35 @@ pub(crate) fn gather(
     live: &DocSet,
     base: DocNo,
     key: &Key,
-    occurrences: &[Occurrence],
+    places: &[Place],
 ) -> Result<(), NoMemory>
-    requires { All (λ o. base + o.place.doc < MAX_DOCS) occurrences.now }
-    ensures { OnOk result (found.new.items ≡ gathered live.now base (has_places key.now) found.old.items occurrences.now) }
+    requires { All (λ p. base + p.doc < MAX_DOCS) places.now }
+    ensures { OnOk result (found.new.items ≡ gathered live.now base (has_places key.now) found.old.items places.now) }
 {
     let told = tells_places(key);
-    for occurrence in occurrences {
-        add(alloc, found, live, base, told, occurrence)?;
+    for place in places {
+        add(alloc, found, live, base, told, *place)?;
     }
     Ok(())
 }
 
-// Adds what is told of an occurrence, where its document is live.
+// Adds what is told of a place, where its document is live.
 fn add(
     alloc: Global,
     found: &mut Vec<Posting>,
     live: &DocSet,
     base: DocNo,
     told: bool,
-    occurrence: &Occurrence,
+    place: Place,
 ) -> Result<(), NoMemory>
-    requires { base + occurrence.now.place.doc < MAX_DOCS }
-    ensures { OnOk result (found.new.items ≡ gather_one live.now base told found.old.items occurrence.now) }
+    requires { base + place.doc < MAX_DOCS }
+    ensures { OnOk result (found.new.items ≡ gather_one live.now base told found.old.items place) }
 {
-    let number = base + occurrence.place.doc;
+    let number = base + place.doc;
     if !live.has(number) {
         return Ok(());
     }
-    put(alloc, found, number, told, occurrence.place)
+    put(alloc, found, number, told, place)
 }
 
 // Whether places are told of a key.

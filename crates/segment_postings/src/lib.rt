@@ -1,6 +1,7 @@
 #![tactic(auto)]
 
 mod gathering;
+mod laid;
 mod occurrence;
 mod packing;
 mod posting;

@@ -2,12 +2,10 @@
 ghost use Rattle.std.specs.Prelude.{◌≡◌, ◌≤◌, ◌++◌, IfOk, OnOk, not, map, filter, length};
 ghost use Rattle.std.specs.Arc.{arc_value};
 ghost use Rattle.std.specs.List.{enumerate_from, flat_map};
-ghost use Rattle.std.specs.List.Sorted.{IsSortedByKey};
-ghost use Rattle.field_schema.specs.Keys.{key_cmp};
 ghost use Rattle.doc_sets.specs.declared.TheConstants.{MAX_DOCS};
-ghost use Rattle.segment_postings.specs.Segments.{IsIndex, of_value, of_tokens, occurrences, with_key};
-ghost use Rattle.segment_postings.specs.Terms.{is_before};
+ghost use Rattle.segment_postings.specs.Segments.{IsIndex, of_value, of_tokens, occurrences};
 
+use crate::laid::Laid;
 use doc_model::Doc;
 use doc_sets::MAX_DOCS;
 use field_schema::{FieldNo, Key, NoMemory, Text, tokens};
@@ -35,17 +33,14 @@ pub(crate) struct Occurrence {
 /// What stands in a field of the documents, ordered by key, and for each key as in the documents.
 ///
 /// It costs the field's keys, times the logarithm of their count.
-pub(crate) fn index(
-    alloc: Global,
-    docs: &[Arc<Doc>],
-    field: FieldNo,
-) -> Result<Vec<Occurrence>, NoMemory>
+pub(crate) fn index(alloc: Global, docs: &[Arc<Doc>], field: FieldNo) -> Result<Laid, NoMemory>
     requires { length docs.now ≤ MAX_DOCS }
-    ensures { IfOk result (λ os. IsIndex (map arc_value docs.now) field os.items) }
+    ensures { IfOk result (λ os. IsIndex (map arc_value docs.now) field os) }
 {
     let mut found = collect(alloc, docs, field)?;
     found.sort()?;
-    Ok(found)
+    let laid = Laid::new(alloc, found.as_slice())?;
+    Ok(laid)
 }
 
 // What stands in a field of the documents, in their order.
@@ -126,24 +121,4 @@ fn add_tokens(
         found.push(Occurrence { key, place })?;
     }
     Ok(())
-}
-
-/// The occurrences of a key. It costs the logarithm of their count.
-pub(crate) fn of_key<'a>(found: &'a [Occurrence], key: &Key) -> &'a [Occurrence]
-    requires { IsSortedByKey (λ o. o.key) key_cmp found.now }
-    ensures { result.now ≡ with_key key.now found.now }
-{
-    let rest = from_key(found, key);
-    let end = rest.partition_point(|o| o.key.cmp(key).is_le());
-    &rest[..end]
-}
-
-/// The occurrences at or after a key. It costs the logarithm of their count.
-pub(crate) fn from_key<'a>(found: &'a [Occurrence], key: &Key) -> &'a [Occurrence]
-    requires { IsSortedByKey (λ o. o.key) key_cmp found.now }
-    ensures at_or_after { result.now ≡ filter (λ o. not (is_before o.key key.now)) found.now }
-    ensures sorted { IsSortedByKey (λ o. o.key) key_cmp result.now }
-{
-    let start = found.partition_point(|o| o.key.cmp(key).is_lt());
-    &found[start..]
 }

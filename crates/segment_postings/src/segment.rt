@@ -4,14 +4,14 @@ ghost use Rattle.std.specs.Arc.{arc_value};
 ghost use Rattle.field_schema.specs.Values.{values_at};
 ghost use Rattle.doc_sets.specs.declared.TheConstants.{MAX_DOCS};
 ghost use Rattle.segment_postings.specs.Postings.{postings_among};
-ghost use Rattle.segment_postings.specs.Segments.{IsPart, AreIndexes, field_at};
+ghost use Rattle.segment_postings.specs.Segments.{IsPart, AreIndexes, field_at, with_key};
 ghost use Rattle.segment_postings.specs.Terms.{Ascending, is_before, put_key};
 ghost use Rattle.segment_postings.specs.Groups.{EndsBefore};
 
 use crate::gathering::gather;
-use crate::occurrence::{Occurrence, from_key, index, of_key};
+use crate::laid::Laid;
+use crate::occurrence::{Place, index};
 use crate::posting::Posting;
-use crate::terms::join;
 use doc_model::Doc;
 use doc_sets::{DocNo, DocSet, MAX_DOCS};
 use field_schema::{FieldNo, Key, NoMemory};
@@ -19,11 +19,11 @@ use std::alloc::Global;
 use std::marker::Model;
 use std::sync::Arc;
 
-/// Documents in their order, with the occurrences of keys in each field.
+/// Documents in their order, with the keys of each field and their places.
 #[derive(Debug, Drop)]
 pub(crate) struct Segment {
     docs: Vec<Arc<Doc>>,
-    fields: Vec<Vec<Occurrence>>,
+    fields: Vec<Laid>,
 }
 
 impl Model for Segment {
@@ -36,11 +36,11 @@ impl Model for Segment {
 
     ghost view = { λ s. record {
       docs = map arc_value s.docs.items;
-      keys = map (map (λ o. o.key)) (map (λ os. os.items) s.fields.items);
+      keys = map (map (λ o. o.key)) s.fields.items;
     } };
 
     ghost invariant = { λ s. (length s.docs.items ≤ MAX_DOCS)
-        × AreIndexes (map arc_value s.docs.items) (map (λ os. os.items) s.fields.items) };
+        × AreIndexes (map arc_value s.docs.items) s.fields.items };
 }
 
 impl Segment {
@@ -64,7 +64,7 @@ impl Segment {
 
     /// Adds what is told of the live documents with a key, of which the first has the number `base`.
     ///
-    /// It costs the logarithm of the field's occurrences, and those of the key.
+    /// It costs the logarithm of the number of the field's keys, and the key's places.
     pub fn add_postings(
         &self,
         alloc: Global,
@@ -79,14 +79,14 @@ impl Segment {
         ensures found { OnOk result (found.new.items ≡ found.old.items
             ++ postings_among live.now base field key.now self.now.docs) }
     {
-        let occurrences = in_field(self.fields.as_slice(), field);
-        gather(alloc, found, live, base, key, of_key(occurrences, key))?;
+        let places = places_in(self.fields.as_slice(), field, key);
+        gather(alloc, found, live, base, key, places)?;
         Ok(())
     }
 
     /// Puts the field's keys at or after a key among ascending ones, and keeps the first `most` of all.
     ///
-    /// It costs the logarithm of the field's occurrences, and those of the keys that come among the first.
+    /// It costs the logarithm of the number of the field's keys, and those that come among the first.
     pub fn add_terms(
         &self,
         alloc: Global,
@@ -102,26 +102,30 @@ impl Segment {
         ensures ascending { OnOk result (Ascending found.new.items) }
         ensures few { OnOk result (length found.new.items ≤ most) }
     {
-        let occurrences = in_field(self.fields.as_slice(), field);
-        join(alloc, found, from_key(occurrences, from), most)?;
-        Ok(())
+        match self.fields.as_slice().get(field as usize) {
+            Some(laid) => {
+                laid.add_terms(alloc, found, from, most)?;
+                Ok(())
+            }
+            None => Ok(()),
+        }
     }
 }
 
-// The occurrences in a field, none past the last.
-fn in_field(fields: &[Vec<Occurrence>], field: FieldNo) -> &[Occurrence]
-    ensures { result.now ≡ field_at (map (λ os. os.items) fields.now) field }
+// The places of a key in a field, none past the last field.
+fn places_in<'a>(fields: &'a [Laid], field: FieldNo, key: &Key) -> &'a [Place]
+    ensures { result.now ≡ map (λ o. o.place) (with_key key.now (field_at fields.now field)) }
 {
     match fields.get(field as usize) {
-        Some(occurrences) => occurrences.as_slice(),
+        Some(laid) => laid.places(key),
         None => &[],
     }
 }
 
-// The occurrences of each field.
-fn index_all(alloc: Global, docs: &[Arc<Doc>]) -> Result<Vec<Vec<Occurrence>>, NoMemory>
+// The keys of each field, with their places.
+fn index_all(alloc: Global, docs: &[Arc<Doc>]) -> Result<Vec<Laid>, NoMemory>
     requires { length docs.now ≤ MAX_DOCS }
-    ensures { IfOk result (λ fs. AreIndexes (map arc_value docs.now) (map (λ os. os.items) fs.items)) }
+    ensures { IfOk result (λ fs. AreIndexes (map arc_value docs.now) fs.items) }
 {
     let Ok(width) = u32::try_from(widest(docs)) else {
         return Err(NoMemory);

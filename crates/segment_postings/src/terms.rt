@@ -4,28 +4,28 @@ ghost use Rattle.std.specs.List.Sorted.{IsSortedByKey};
 ghost use Rattle.field_schema.specs.Keys.{key_cmp};
 ghost use Rattle.segment_postings.specs.Terms.{Ascending, is_before, put_key, begins_with, PastAll};
 
-use crate::occurrence::Occurrence;
+use crate::laid::Term;
 use field_schema::{Key, NoMemory};
 use std::alloc::Global;
 
-/// Puts the keys of sorted occurrences among ascending keys, and keeps the first `most` of all.
+/// Puts sorted terms among ascending keys, and keeps the first `most` of all.
 ///
-/// It costs the occurrences of the keys that come among the first, and for each new one a move of those behind it.
+/// It costs the terms that come among the first, and for each new one a move of those behind it.
 pub(crate) fn join(
     alloc: Global,
     found: &mut Vec<Key>,
-    occurrences: &[Occurrence],
+    terms: &[Term],
     most: usize,
 ) -> Result<(), NoMemory>
     requires ascending { Ascending found.old.items }
     requires few { length found.old.items ≤ most }
-    requires sorted { IsSortedByKey (λ o. o.key) key_cmp occurrences.now }
-    ensures found { OnOk result (found.new.items ≡ take most (fold put_key found.old.items (map (λ o. o.key) occurrences.now))) }
+    requires sorted { IsSortedByKey (λ t. t.key) key_cmp terms.now }
+    ensures found { OnOk result (found.new.items ≡ take most (fold put_key found.old.items (map (λ t. t.key) terms.now))) }
     ensures ascending { OnOk result (Ascending found.new.items) }
     ensures few { OnOk result (length found.new.items ≤ most) }
 {
-    for occurrence in occurrences {
-        if !put(alloc, found, &occurrence.key, most)? {
+    for term in terms {
+        if !put(alloc, found, &term.key, most)? {
             return Ok(());
         }
     }

@@ -1,5 +1,4 @@
-use Rattle.std.proofs.Common.{◌≡◌, ◌∷◌, [], ◌++◌, cond, sym, ap, ◌∙◌, arith, filter}
-use Rattle.std.specs.List.{range_with_len}
+use Rattle.std.proofs.Common.{◌∷◌, [], ◌++◌, cond, sym, ◌∙◌}
 use Rattle.segment_postings.specs.Views.{is_moved}
 use Rattle.segment_postings.proofs.Packed.{range_kept}
 use Rattle.segment_postings.proofs.packing.moved_numbers.Goals as goal

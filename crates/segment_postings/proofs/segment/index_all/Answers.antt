@@ -1,18 +1,16 @@
-use Rattle.std.proofs.Common.{◌≡◌, ◌≤◌, map, sym, ap, subst, ◌∙◌, arith, rules}
+use Rattle.std.proofs.Common.{◌≡◌, ◌≤◌, map, sym, subst, arith, rules}
 use Rattle.std.specs.Arc.{arc_value}
-use Rattle.std.proofs.lemmas.List.{map-append}
 use Rattle.segment_postings.proofs.SegmentLaws.{FieldsUpTo, one_field_more, all_fields}
 use Rattle.segment_postings.proofs.segment.index_all.Goals as goal
 
 pub loop-field-preserved : goal.loop-field-preserved
 loop-field-preserved c =
     let ds = map arc_value c.args.docs.now in
-    let fs = map (λ os. os.items) c.loop-field.fields.items in
-    subst (FieldsUpTo ds _) (sym (ap (map (λ os. os.items)) c.in_ok-push.ensures.items ∙ map-append (λ os. os.items) c.loop-field.fields.items _))
-    (one_field_more ds c.loop-field.field fs _ c.loop-field.invariant c.in_ok-index.ensures)
+    subst (FieldsUpTo ds _) (sym c.in_ok-push.ensures.items)
+    (one_field_more ds c.loop-field.field c.loop-field.fields.items _ c.loop-field.invariant c.in_ok-index.ensures)
 
 pub returns : goal.returns
 returns c =
     let same : c.in-Ok.width ≡ c.widest.result = search rules in
     let most : c.widest.result ≤ c.loop-field.field = omega arith in
-    all_fields (map arc_value c.args.docs.now) c.loop-field.field (map (λ os. os.items) c.loop-field.fields.items) c.loop-field.invariant (λ k d l. omega (arith, c.widest.ensures k d l))
+    all_fields (map arc_value c.args.docs.now) c.loop-field.field c.loop-field.fields.items c.loop-field.invariant (λ k d l. omega (arith, c.widest.ensures k d l))

@@ -4,4 +4,4 @@ use Rattle.segment_postings.proofs.SegmentLaws.{FieldsUpTo}
 use Rattle.segment_postings.proofs.segment.index_all.Given as goal
 
 abbrev pub invariant-loop-field : goal.invariant-loop-field
-invariant-loop-field l = FieldsUpTo (map arc_value l.docs) l.field (map (λ os. os.items) l.fields.items)
+invariant-loop-field l = FieldsUpTo (map arc_value l.docs) l.field l.fields.items

@@ -1,7 +1,6 @@
-use Rattle.std.proofs.Common.{◌≡◌, ◌+◌, ◌<◌, ◌≤◌, ◌∷◌, [], length, length-append, map, take, drop, sym, ap, ◌∙◌, arith}
+use Rattle.std.proofs.Common.{◌<◌, length, length-append, map, take, sym, ap, ◌∙◌, arith}
 use Rattle.std.specs.Arc.{arc_value}
 use Rattle.std.proofs.lemmas.List.{length-map}
-use Rattle.doc_sets.specs.declared.TheConstants.{MAX_DOCS}
 use Rattle.segment_postings.specs.Segments.{Part}
 use Rattle.segment_postings.specs.Views.{all_docs}
 use Rattle.segment_postings.proofs.Joining.{take_all}

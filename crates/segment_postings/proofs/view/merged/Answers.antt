@@ -1,4 +1,4 @@
-use Rattle.std.proofs.Common.{◌≡◌, ◌+◌, ◌<◌, ◌-◌, ◌++◌, length, map, take, drop, sym, ap, subst, ◌∙◌, arith, length-drop}
+use Rattle.std.proofs.Common.{◌+◌, ◌<◌, ◌-◌, ◌++◌, length, map, drop, sym, ap, subst, ◌∙◌, arith, length-drop}
 use Rattle.std.specs.Arc.{arc_value}
 use Rattle.std.proofs.lemmas.List.{length-map, take-map, drop-map}
 use Rattle.segment_postings.specs.Views.{AddsPart}

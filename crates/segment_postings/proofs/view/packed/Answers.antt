@@ -1,11 +1,9 @@
-use Rattle.std.proofs.Common.{◌≡◌, ◌+◌, ◌≤◌, ◌<◌, ◌++◌, List, length, length-append, get_or, map, take, drop, sym, ap, subst, ◌∙◌, arith}
+use Rattle.std.proofs.Common.{◌≡◌, ◌++◌, length, length-append, map, sym, ap, ◌∙◌, arith}
 use Rattle.std.specs.Arc.{arc_value}
 use Rattle.std.proofs.lemmas.List.{length-map, take-map}
-use Rattle.doc_model.specs.Document.{Document}
-use Rattle.doc_sets.specs.declared.TheConstants.{MAX_DOCS}
 use Rattle.segment_postings.specs.Segments.{Part}
 use Rattle.segment_postings.specs.Views.{all_docs, pair_docs, live_from}
-use Rattle.segment_postings.proofs.Packed.{pair_of, pair_room, few_from, docs_around}
+use Rattle.segment_postings.proofs.Packed.{pair_of, pair_room, few_from}
 use Rattle.segment_postings.proofs.view.packed.Goals as goal
 
 pub count-start-requires : goal.count-start-requires

@@ -1,11 +1,10 @@
-use Rattle.std.proofs.Common.{◌≡◌, ◌+◌, ◌-◌, ◌<◌, ◌≤◌, List, length, map, sym, ap, subst, ◌∙◌, arith}
+use Rattle.std.proofs.Common.{◌≤◌, length, map, sym, ap, subst, ◌∙◌, arith}
 use Rattle.std.specs.Arc.{arc_value}
 use Rattle.std.proofs.lemmas.List.{length-map}
 use Rattle.doc_sets.specs.declared.TheConstants.{MAX_DOCS}
-use Rattle.segment_postings.specs.declared.segment.Segment.{Segment}
 use Rattle.segment_postings.specs.Numbered.{docs}
 use Rattle.segment_postings.specs.Segments.{Part}
-use Rattle.segment_postings.specs.Views.{Indexed, all_docs, numbered, pair_docs, IsView, Packs, IsPacking, Merges, IsPacked}
+use Rattle.segment_postings.specs.Views.{Indexed, all_docs, numbered, IsPacked}
 use Rattle.segment_postings.proofs.Packed.{same_packs, same_merges, is_packing, same_docs, new_size, packed_view, is_packed}
 use Rattle.segment_postings.proofs.view.View.merge.Goals as goal
 

@@ -1,0 +1,143 @@
+//! The keys of a field, each once, and their places in one row.
+ghost use Rattle.std.specs.Prelude.{◌≡◌, ◌<◌, ◌≤◌, ◌++◌, IfOk, OnOk, map, filter, fold, take, length, not};
+ghost use Rattle.std.specs.List.Sorted.{IsSortedByKey};
+ghost use Rattle.field_schema.specs.Keys.{key_cmp};
+ghost use Rattle.segment_postings.specs.Segments.{with_key};
+ghost use Rattle.segment_postings.specs.Terms.{Ascending, is_before, put_key, begins_with};
+ghost use Rattle.segment_postings.specs.Layout.{IsLaid, own_places, add_term, ends_with, first_places};
+
+use crate::occurrence::{Occurrence, Place};
+use crate::terms::join;
+use field_schema::{Key, NoMemory};
+use std::alloc::Global;
+use std::marker::Model;
+
+/// A key, and where its places begin. They end where those of the next begin.
+#[derive(Debug, Drop)]
+pub(crate) struct Term {
+    pub key: Key,
+    pub start: usize,
+}
+
+/// Keys with their places. Contracts see each key at each of its places, in the order of the keys.
+#[derive(Debug, Drop)]
+pub(crate) struct Laid {
+    terms: Vec<Term>,
+    places: Vec<Place>,
+}
+
+impl Model for Laid {
+    ghost use Rattle.std.specs.Prelude.{List, map};
+    ghost use Rattle.segment_postings.specs.declared.occurrence.Occurrence.{Occurrence};
+    ghost use Rattle.segment_postings.specs.Terms.{Ascending};
+    ghost use Rattle.segment_postings.specs.Layout.{spelled, IsLaid};
+
+    ghost Value = { List Occurrence };
+
+    ghost view = { λ l. spelled l.terms.items l.places.items };
+
+    ghost invariant = { λ l. IsLaid l.terms.items l.places.items × Ascending (map (λ t. t.key) l.terms.items) };
+}
+
+impl Laid {
+    /// Lays out sorted occurrences. It costs their number, and a copy of each key.
+    pub fn new(alloc: Global, found: &[Occurrence]) -> Result<Laid, NoMemory>
+        requires { IsSortedByKey (λ o. o.key) key_cmp found.now }
+        ensures { IfOk result (λ l. l ≡ found.now) }
+    {
+        let mut terms = Vec::new(alloc);
+        let mut places = Vec::with_capacity(alloc, found.len())?;
+        for occurrence in found {
+            add_term(alloc, &mut terms, &occurrence.key, places.len())?;
+            places.push(occurrence.place)?;
+        }
+        Ok(Laid { terms, places })
+    }
+
+    /// The places of a key. It costs the logarithm of the number of keys.
+    pub fn places(&self, key: &Key) -> &[Place]
+        ensures { result.now ≡ map (λ o. o.place) (with_key key.now self.now) }
+    {
+        let rest = from_term(self.terms.as_slice(), key);
+        if !begins_with(rest, key) {
+            return &[];
+        }
+        first_places(rest, self.places.as_slice())
+    }
+
+    /// Puts the keys at or after a key among ascending ones, and keeps the first `most` of all.
+    ///
+    /// It costs the logarithm of the number of keys, and those that come among the first.
+    pub fn add_terms(
+        &self,
+        alloc: Global,
+        found: &mut Vec<Key>,
+        from: &Key,
+        most: usize,
+    ) -> Result<(), NoMemory>
+        requires ascending { Ascending found.old.items }
+        requires few { length found.old.items ≤ most }
+        ensures found { OnOk result (found.new.items ≡ take most
+            (fold put_key found.old.items (filter (λ k. not (is_before k from.now)) (map (λ o. o.key) self.now)))) }
+        ensures ascending { OnOk result (Ascending found.new.items) }
+        ensures few { OnOk result (length found.new.items ≤ most) }
+    {
+        let rest = from_term(self.terms.as_slice(), from);
+        join(alloc, found, rest, most)?;
+        Ok(())
+    }
+}
+
+// Adds a key behind the others, where it is not the last of them.
+fn add_term(alloc: Global, terms: &mut Vec<Term>, key: &Key, start: usize) -> Result<(), NoMemory>
+    ensures { OnOk result (terms.new.items ≡ add_term terms.old.items key.now start) }
+{
+    if ends_with(terms, key) {
+        return Ok(());
+    }
+    let key = key.copy(alloc)?;
+    terms.push(Term { key, start })?;
+    Ok(())
+}
+
+// Whether a key is the last one.
+fn ends_with(terms: &[Term], key: &Key) -> bool
+    ensures { result ≡ ends_with key.now terms.now }
+{
+    match terms {
+        [.., last] => last.key == *key,
+        [] => false,
+    }
+}
+
+// Whether a key is the first one.
+fn begins_with(terms: &[Term], key: &Key) -> bool
+    ensures { result ≡ begins_with key.now (map (λ t. t.key) terms.now) }
+{
+    match terms {
+        [first, ..] => *key == first.key,
+        [] => false,
+    }
+}
+
+// The keys at or after a key.
+fn from_term<'a>(terms: &'a [Term], key: &Key) -> &'a [Term]
+    requires { Ascending (map (λ t. t.key) terms.now) }
+    ensures split { filter (λ t. is_before t.key key.now) terms.now ++ result.now ≡ terms.now }
+    ensures behind { result.now ≡ filter (λ t. not (is_before t.key key.now)) terms.now }
+{
+    let start = terms.partition_point(|t| t.key.cmp(key).is_lt());
+    &terms[start..]
+}
+
+// The places of the first key.
+fn first_places<'a>(terms: &[Term], places: &'a [Place]) -> &'a [Place]
+    requires { IsLaid terms.now places.now }
+    ensures { result.now ≡ first_places terms.now places.now }
+{
+    match terms {
+        [first, second, ..] => &places[first.start..second.start],
+        [first] => &places[first.start..],
+        [] => &[],
+    }
+}
