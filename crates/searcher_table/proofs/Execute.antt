@@ -1,0 +1,128 @@
+-- Executing keeps the rule: the call in hand has its entry, which its caller's pass does not know yet.
+use Rattle.std.proofs.Common.{◌≡◌, ◌≢◌, ℕ, ◌≤◌, true, cond, List, [], ◌∷◌, ◌++◌, append-nil, set, sym, refl, ap, ◌∙◌, subst, inr, ⊎_elim, length-set, eq-eqb, ne_eqb, Option, Some, None}
+use mathlib.Core.Option.{some}
+use mathlib.Core.Option as maybe
+use mathlib.Core.Logic.{dite}
+use native.Mathlib.Decide.{ℕ_discrete}
+use Rattle.std.specs.Prelude.{slice_index}
+use Rattle.std.proofs.lemmas.Option.{same_Some, none-some}
+use Rattle.atomic_table.specs.Table.{Me, Allows, keeps, step}
+use Rattle.registry_machine.specs.declared.entry.Entry.{Entry}
+use Rattle.registry_machine.specs.declared.entry.Entry.TheVariants.{Update}
+use Rattle.registry_machine.specs.Entries.{caller_of}
+use Rattle.registry_machine.specs.Callers.{mine}
+use Rattle.registry_machine.specs.Machine.{Limits, start, is_some_of}
+use Rattle.registry_machine.specs.Legal.{IsAllowed, Legal, state_of}
+use Rattle.registry_machine.proofs.Runs.{joined as runs_join}
+use Rattle.searcher_table.specs.declared.board.Asked.{Asked}
+use Rattle.searcher_table.specs.declared.board.Call.TheVariants.{Update as ToUpdate}
+use Rattle.searcher_table.specs.declared.board.Cell.{Cell}
+use Rattle.searcher_table.specs.declared.board.Plan.{Plan}
+use Rattle.searcher_table.specs.declared.board.Hand.{Hand}
+use Rattle.searcher_table.specs.declared.board.Own.{Own}
+use Rattle.searcher_table.specs.declared.board.Known.{Known}
+use Rattle.searcher_table.specs.Words.{call_word, code, limits}
+use Rattle.searcher_table.specs.Views.{Answers, IsStill, WasExecuted, GoesOn, HasNoPlaceSince}
+use Rattle.searcher_table.specs.Rule.{World, IsPass, IsHand, IsRegistrar, IsBack, Kept}
+use Rattle.searcher_table.specs.Steps.{looked, HasExecuted, Executed}
+use Rattle.searcher_table.proofs.Frame.{put, put_here, put_else, moved, Leaves, starts_later, own_joined, all_map, one_after, covers}
+use Rattle.searcher_table.proofs.Handing.{calls_after, other_hand}
+
+module _ {U X L : Type 0} where
+  -- a caller's own entry is one more, and another's is none
+  pub own_entry : (c d : ℕ) (log : List (Entry U X L)) (e : Entry U X L) → caller_of e ≡ Some c → d ≡ c → mine d (log ++ e ∷ []) ≡ mine d log ++ e ∷ []
+  own_entry c d log e named same = own_joined d log (e ∷ []) ∙ ap (λ es. mine d log ++ es)
+      (ap (λ o. cond (is_some_of d o) (e ∷ []) []) named ∙ ap (λ b. cond b (e ∷ []) []) (eq-eqb c d (sym same)))
+
+  pub no_entry : (c d : ℕ) (log : List (Entry U X L)) (e : Entry U X L) → caller_of e ≡ Some c → d ≢ c → mine d (log ++ e ∷ []) ≡ mine d log
+  no_entry c d log e named other = own_joined d log (e ∷ []) ∙ ap (λ es. mine d log ++ es)
+      (ap (λ o. cond (is_some_of d o) (e ∷ []) []) named ∙ ap (λ b. cond b (e ∷ []) []) (ne_eqb c d (λ s. other (sym s)))) ∙ append-nil (mine d log)
+
+  pub grows_legal : (l : Limits) (log : List (Entry U X L)) (e : Entry U X L) → Legal l log → IsAllowed l (state_of l log) e → Legal l (log ++ e ∷ [])
+  grows_legal l log e legal may = runs_join l (start l) log (e ∷ []) legal (may, tt)
+
+module _ {U X L : Type 0} (w : World U X L) (h : Hand U) (e : Entry U X L) (answers : Answers h.caller h.asked e) where
+  -- a pass knows its caller's entries but the one that is new
+  passes : {W : Type 0} (j : ℕ) (k : Known W U X L) → w.pending h.caller ≡ Some h.asked → IsPass w j k
+      → GoesOn k.caller k.mine k.announced (mine k.caller (w.log ++ e ∷ [])) (put h.caller None w.pending k.caller)
+  passes {W} j k pending g = dite (ℕ_discrete k.caller h.caller)
+      (λ same. ⊎_elim
+      (λ (s : IsStill k.caller k.mine k.announced (mine k.caller w.log) (w.pending k.caller)). inr record {
+        asked = h.asked;
+        entry = e;
+        announced = sym s.announced ∙ ap w.pending same ∙ pending;
+        answers = subst (λ n. Answers n h.asked e) (sym same) answers;
+        mine = own_entry h.caller k.caller w.log e answers.caller same ∙ ap (λ es. es ++ e ∷ []) s.mine;
+        none = ap (put h.caller None w.pending) same ∙ put_here h.caller None w.pending;
+      })
+      (λ (s : WasExecuted k.caller k.mine k.announced (mine k.caller w.log) (w.pending k.caller)). absurd (none-some h.asked (sym s.none ∙ ap w.pending same ∙ pending)))
+      g.calls)
+      (λ other. subst (λ (a : Option (Asked U)). GoesOn k.caller k.mine k.announced (mine k.caller (w.log ++ e ∷ [])) a) (sym (put_else h.caller None w.pending k.caller other))
+      (subst (λ (es : List (Entry U X L)). GoesOn k.caller k.mine k.announced es (w.pending k.caller)) (sym (no_entry h.caller k.caller w.log e answers.caller other)) g.calls))
+
+  backs : (j : ℕ) (o : Own U X L) → w.pending h.caller ≡ Some h.asked → IsBack w j o → IsBack (moved w (w.log ++ e ∷ []) (put h.caller None w.pending) w.hand_at) j o
+  backs j o pending g =
+      let n : o.caller ≢ h.caller = λ same. none-some h.asked (sym g.none ∙ ap w.pending same ∙ pending) in
+      record { here = g.here; dealt = g.dealt; mine = no_entry h.caller o.caller w.log e answers.caller n ∙ g.mine; none = put_else h.caller None w.pending o.caller n ∙ g.none }
+
+  leaves : (W : Type 0) (id : ℕ) → w.registrar_at ≡ id → w.hand_at h.caller ≡ id → w.pending h.caller ≡ Some h.asked → Leaves W w (moved w (w.log ++ e ∷ []) (put h.caller None w.pending) w.hand_at) id
+  leaves W id registrar here pending = record {
+    log = λ seen s. starts_later w.log seen (e ∷ []) s;
+    passes = λ j k _ _ (g : IsPass w j k). record { here = g.here; dealt = g.dealt; calls = passes j k pending g };
+    hands = λ j i other (g : IsHand w j i). record { here = g.here; pending = put_else h.caller None w.pending i.caller (other_hand w id j h.caller i.caller here g.here other) ∙ g.pending };
+    registrars = λ j k other (g : IsRegistrar w j k). absurd (other (sym g.here ∙ registrar));
+    backs = λ j o _ g. backs j o pending g;
+  }
+
+-- the entry is one that may come next, whatever the history is by then
+abbrev pub MayCome : {W U X L : Type 0} → Known W U X L → Entry U X L → Type 0
+MayCome {W} {U} {X} {L} k e = (q : Plan W) (log : List (Entry U X L)) → k.plan ≡ Some q → Legal (limits q) log → HasNoPlaceSince log k.seen → IsAllowed (limits q) (state_of (limits q) log) e
+
+module _ {D W U X L : Type 0} (p : Plan W) where
+  pub executes : (slots id : ℕ) (me : Me (Cell D U) (Known W U X L)) (i : ℕ) (h : Hand U) (e : Entry U X L) → i ≡ call_word h.caller → h.caller ≤ 64 → me.0.hand ≡ Some h → me.0.registrar ≡ true → me.0.plan ≡ Some p
+      → Answers h.caller h.asked e → MayCome me.0 e
+      → (then : Me (Cell D U) (Known W U X L) → Type 0) → ((new : Me (Cell D U) (Known W U X L)) → HasExecuted e me new → then new)
+      → Allows (Kept p) slots id me i (λ _. 0) (λ _. then)
+  executes slots id me i h e at_word few has role told answers may then tells s kept deep at small =
+      let w = kept.world in
+      let k = me.0 in
+      let c : ℕ = h.caller in
+      let all = kept.one.fits id k at in
+      let f = all.registrar role in
+      let hand = all.hand h has in
+      let now : ℕ → Option (Asked U) = put c None w.pending in
+      let log : List (Entry U X L) = w.log ++ e ∷ [] in
+      let legal : Legal (limits p) log = grows_legal (limits p) w.log e kept.legal (may p w.log told kept.legal f.seen) in
+      let new : Me (Cell D U) (Known W U X L) = (record (looked k log now) { hand = None }, me.1) in (
+        new.0,
+        keeps,
+        tt,
+        record {
+          words = length-set s.words i 0 ∙ kept.words;
+          world = moved w log now w.hand_at;
+          legal = legal;
+          one = one_after p w log now w.hand_at s.words (set s.words i 0) s.views id k None kept.one at (leaves w h e answers W id f.here hand.here hand.pending)
+              (λ d l g. subst (λ (n : ℕ). slice_index (set s.words n 0) (call_word d) ≡ code (now d)) (sym at_word) (calls_after s.words w.pending c 0 None kept.words few refl kept.one.calls d l g))
+              (λ d past. let u = kept.one.undealt d past in
+              let n : d ≢ c = λ same. none-some h.asked (sym u.0 ∙ ap w.pending same ∙ hand.pending) in
+              (put_else c None w.pending d n ∙ u.0, no_entry c d w.log e answers.caller n ∙ u.1))
+              (λ g is. absurd (none-some g is))
+              (all_map (IsBack w id) (IsBack (moved w log now w.hand_at) id) (λ o b. backs w h e answers id o hand.pending b) k.back all.back);
+        },
+        tells new record {
+          log = w.log;
+          pending = now;
+          covers = covers p w id k all kept.legal;
+          legal = λ q is. subst (λ (r : Plan W). Legal (limits r) log) (sym (all.plan q is)) legal;
+          after = refl;
+        },
+      )
+
+  -- an update may come at any time
+  pub updates : (slots id : ℕ) (me : Me (Cell D U) (Known W U X L)) (i : ℕ) (h : Hand U) → i ≡ call_word h.caller → h.caller ≤ 64 → me.0.hand ≡ Some h → me.0.registrar ≡ true → me.0.plan ≡ Some p
+      → h.asked.call ≡ ToUpdate → Allows (Kept p) slots id me i (λ _. 0) (λ _. Executed (step slots i 0 0 maybe.none) me 0)
+  updates slots id me i h at_word few has role told is =
+      executes slots id me i h (Update h.caller h.asked.content) at_word few has role told
+      record { caller = refl; content = refl; call = ap (λ x. Some x) (sym is) } (λ _ _ _ _ _. tt)
+      (λ new. Executed (step slots i 0 0 maybe.none) me 0 new)
+      (λ new done g e. subst (λ (x : Hand U). HasExecuted (Update x.caller x.asked.content) me new) (same_Some h g (sym has ∙ e)) done)

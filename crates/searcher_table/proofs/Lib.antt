@@ -1,0 +1,16 @@
+pub mod Frame
+pub mod Handing
+pub mod Look
+pub mod Announce
+pub mod HandOut
+pub mod Gather
+pub mod Withdraw
+pub mod Execute
+pub mod Passing
+pub mod Places
+pub mod Registering
+pub mod Opening
+pub mod Deal
+pub mod Row
+pub mod Chain
+pub mod TakeBack

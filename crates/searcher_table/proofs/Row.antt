@@ -1,0 +1,53 @@
+-- The row of passes, one by one.
+use Rattle.std.proofs.Common.{◌≡◌, ◌⊎◌, ℕ, zero, suc, ◌+◌, List, [], ◌∷◌, ◌++◌, length, length-append, arith, refl, sym, ap, ◌∙◌, inl, inr, ⊎_elim, subst, Some, None}
+use Rattle.std.specs.Prelude.{slice_get}
+use Rattle.searcher_table.specs.declared.pass.Pass.{Pass}
+use Rattle.searcher_table.specs.declared.registrar.Registrar.{Registrar}
+use Rattle.searcher_table.specs.Making.{IsNewPass, AreDealt, ArePassesOf, HasDealt}
+
+got_last : {A : Type 0} (xs : List A) (a x : A) (i : ℕ) → slice_get (xs ++ a ∷ []) i ≡ Some x → (slice_get xs i ≡ Some x) ⊎ ((i ≡ length xs) × (a ≡ x))
+got_last [] a x zero e = inr (refl, (let p : Some a ≡ Some x = e in cc))
+got_last [] a x (suc i) e = let p : None ≡ Some x = e in absurd (cc)
+got_last (y ∷ ys) a x zero e = inl e
+got_last (y ∷ ys) a x (suc i) e = ⊎_elim (λ s. inl s) (λ s. inr (ap suc s.0, s.1)) (got_last ys a x i e)
+
+got_here : {A : Type 0} (xs : List A) (a : A) → slice_get (xs ++ a ∷ []) (length xs) ≡ Some a
+got_here [] a = refl
+got_here (x ∷ xs) a = got_here xs a
+
+got_before : {A : Type 0} (xs ys : List A) (i : ℕ) (x : A) → slice_get xs i ≡ Some x → slice_get (xs ++ ys) i ≡ Some x
+got_before [] ys i x e = let p : None ≡ Some x = e in absurd (cc)
+got_before (a ∷ xs) ys zero x e = e
+got_before (a ∷ xs) ys (suc i) x e = got_before xs ys i x e
+
+module _ {D U W X L : Type 0} where
+  -- the registrar stays what it was to a pass that was dealt
+  same_registrar : (r s : Registrar D U W X L) (c : ℕ) (t : Pass D U W X L) → HasDealt r s → IsNewPass r c t → IsNewPass s c t
+  same_registrar r s c t d n = record {
+    table = n.table ∙ sym d.registrar.table;
+    plan = n.plan ∙ sym d.registrar.plan;
+    caller = n.caller;
+    seen = n.seen;
+    mine = n.mine;
+    announced = n.announced;
+    steps = n.steps;
+  }
+
+  pub one_more : (r s : Registrar D U W X L) (passes : List (Pass D U W X L)) (t : Pass D U W X L) → ArePassesOf r passes → HasDealt r s → IsNewPass s (length passes + 1) t → ArePassesOf s (passes ++ t ∷ [])
+  one_more r s passes t all d new = record {
+    dealt = λ i x e. ⊎_elim
+        (λ was. same_registrar r s (i + 1) x d (all.dealt i x was))
+        (λ (it : (i ≡ length passes) × (t ≡ x)). subst (λ (y : ℕ × Pass D U W X L). IsNewPass s (y.0 + 1) y.1) (λ j. (sym it.0 j, it.1 j)) new)
+        (got_last passes t x i e);
+    opening = d.seen ∙ all.opening;
+  }
+
+  -- the last two of two passes
+  pub pair : (r : Registrar D U W X L) (all xs ys : List (Pass D U W X L)) (two one : Pass D U W X L) → all ≡ xs ++ two ∷ [] → xs ≡ ys ++ one ∷ [] → AreDealt r all → length all ≡ 2 → IsNewPass r 1 one × IsNewPass r 2 two
+  pair r all xs ys two one is is' dealt len =
+      let long : length xs ≡ 1 = (let a = ap length is in let b = length-append xs (two ∷ []) in omega arith) in
+      let none : length ys ≡ 0 = (let a = ap length is' in let b = length-append ys (one ∷ []) in omega arith) in
+      let whole : AreDealt r (xs ++ two ∷ []) = subst (λ (l : List (Pass D U W X L)). AreDealt r l) is dealt in (
+        subst (λ (n : ℕ). IsNewPass r (n + 1) one) none (whole (length ys) one (got_before xs (two ∷ []) (length ys) one (ap (λ l. slice_get l (length ys)) is' ∙ got_here ys one))),
+        subst (λ (n : ℕ). IsNewPass r (n + 1) two) long (whole (length xs) two (got_here xs two)),
+      )

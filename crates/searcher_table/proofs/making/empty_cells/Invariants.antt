@@ -1,0 +1,5 @@
+use Rattle.std.proofs.Common.{◌≡◌, ◌≤◌, length, vec_capacity}
+use Rattle.searcher_table.proofs.making.empty_cells.Given as goal
+
+abbrev pub invariant-loop : goal.invariant-loop
+invariant-loop g l = record { room : l.count ≤ vec_capacity l.cells; len : length l.cells.items ≡ l.counter }

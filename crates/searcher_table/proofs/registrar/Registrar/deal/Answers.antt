@@ -1,0 +1,14 @@
+use Rattle.std.proofs.Common.{◌≡◌, ◌∙◌, sym, ap, arith}
+use Rattle.searcher_table.proofs.Deal.{deals}
+use Rattle.searcher_table.proofs.registrar.Registrar.deal.Goals as goal
+
+pub split_seat-place-requires : goal.split_seat-place-requires
+split_seat-place-requires g c =
+    let registrar = c.args.self.now in
+    let table = c.deref.result.now.shared in
+    let same : registrar.place.table_id ≡ table.table_id = registrar.at_table ∙ sym (ap (λ t. t.shared.table_id) c.deref.ensures) in
+    let words : table.table_id.words ≡ 1168 = ap (λ z. z.words) (sym same) ∙ registrar.sized in (
+      same,
+      omega arith,
+      deals table.key registrar.place.id registrar.place.me.0 registrar.role,
+    )

@@ -1,0 +1,47 @@
+use Rattle.std.proofs.Common.{◌≡◌, ◌∙◌, refl, sym, ap, arith}
+use Rattle.searcher_table.proofs.Registering.{has_seen}
+use Rattle.searcher_table.proofs.Gather.{joins}
+use Rattle.searcher_table.proofs.Look.{looks}
+use Rattle.searcher_table.proofs.registrar.Registrar.meet.Goals as goal
+
+pub join_seat-requires : goal.join_seat-requires
+join_seat-requires g c =
+    let registrar = c.args.self.now in
+    let note = c.args.note in
+    let table = c.deref.result.now.shared in
+    let same : registrar.place.table_id ≡ table.table_id = registrar.at_table ∙ sym (ap (λ t. t.shared.table_id) c.deref.ensures) in
+    let words : table.table_id.words ≡ 1168 = ap (λ z. z.words) (sym same) ∙ registrar.sized in (
+      same,
+      c.requires ∙ same,
+      note.bare,
+      omega arith,
+      joins table.key registrar.place.id registrar.place.me.0 note.place.id note.place.me.0,
+    )
+
+pub load-requires : goal.load-requires
+load-requires g c =
+    let registrar = c.args.self.now in
+    let table = c.deref.result.now.shared in
+    let same : registrar.place.table_id ≡ table.table_id = registrar.at_table ∙ sym (ap (λ t. t.shared.table_id) c.deref.ensures) in
+    let words : table.table_id.words ≡ 1168 = ap (λ z. z.words) (sym same) ∙ registrar.sized in (
+      c.join_seat.ensures.0 ∙ same,
+      omega arith,
+      looks table.key table.table_id.slots c.join_seat.new.seat.id c.join_seat.new.seat.me 16,
+    )
+
+pub invariant_of-self-clause-counted : goal.invariant_of-self-clause-counted
+invariant_of-self-clause-counted g c =
+    let l = c.load.ensures.2 in
+    (has_seen c.args.self.now c.args.note.place.me.0 c.load.new.seat.me.0 c.join_seat.new.seat.me l.log c.join_seat.ensures.2 l.covers (ap (λ m. m.0.seen) l.after)).places
+
+pub returns : goal.returns
+returns g c =
+    let l = c.load.ensures.2 in
+    let h = has_seen c.args.self.now c.args.note.place.me.0 c.load.new.seat.me.0 c.join_seat.new.seat.me l.log c.join_seat.ensures.2 l.covers (ap (λ m. m.0.seen) l.after) in
+    record {
+      registrar = record { table = c.load.ensures.0 ∙ c.join_seat.ensures.0; plan = refl };
+      legal = h.legal;
+      back = ap (λ m. m.0.back) l.after ∙ ap (λ m. m.0.back) c.join_seat.ensures.2;
+      seen = h.seen;
+      covers = h.covers;
+    }

@@ -1,0 +1,8 @@
+pub mod Words
+pub mod Views
+pub mod Rule
+pub mod Steps
+pub mod Passes
+pub mod Registrars
+pub mod Making
+pub mod Trials

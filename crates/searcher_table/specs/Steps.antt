@@ -1,0 +1,115 @@
+-- What each kind of step tells the seat that makes it, and how views are split and joined.
+use Rattle.std.specs.Prelude.{◌≡◌, ℕ, ◌+◌, ◌≤◌, true, false, List, [], ◌∷◌, ◌++◌, Option, Some, None}
+use mathlib.Core.Option.{some}
+use Rattle.atomic_table.specs.Table.{Me, Step}
+use Rattle.registry_machine.specs.declared.entry.Entry.{Entry}
+use Rattle.registry_machine.specs.declared.entry.Entry.TheVariants.{Update}
+use Rattle.registry_machine.specs.Legal.{Legal}
+use Rattle.registry_machine.specs.Callers.{mine}
+use Rattle.searcher_table.specs.declared.board.Asked.{Asked}
+use Rattle.searcher_table.specs.declared.board.Cell.{Cell}
+use Rattle.searcher_table.specs.declared.board.Cell.TheVariants.{Said}
+use Rattle.searcher_table.specs.declared.board.Plan.{Plan}
+use Rattle.searcher_table.specs.declared.board.Hand.{Hand}
+use Rattle.searcher_table.specs.declared.board.Known.{Known}
+use Rattle.searcher_table.specs.Words.{limits}
+use Rattle.searcher_table.specs.Views.{StartsWith, HasNoPlaceSince, GoesOn}
+
+module _ {W U X L : Type 0} where
+  -- ---- splits and joins
+
+  -- a seat with none of these rights, which has seen this
+  abbrev pub bystander : Option (Plan W) → List (Entry U X L) → Known W U X L
+  bystander plan seen = record {
+    plan = plan;
+    caller = 0;
+    mine = [];
+    announced = None;
+    hand = None;
+    seen = seen;
+    told = [];
+    steps = 0;
+    registrar = false;
+    next = 0;
+    back = [];
+  }
+
+  -- what was announced goes to a seat of its own, which has seen as much
+  abbrev pub kept_back : Known W U X L → Known W U X L
+  kept_back k = record k { hand = None }
+
+  abbrev pub handed_out : Known W U X L → Known W U X L
+  handed_out k = record (bystander k.plan k.seen) { hand = k.hand }
+
+  -- the next caller's pass goes to a seat of its own
+  abbrev pub keeps_others : Known W U X L → Known W U X L
+  keeps_others k = record k { next = k.next + 1 }
+
+  abbrev pub dealt_out : Known W U X L → Known W U X L
+  dealt_out k = record (bystander k.plan []) { caller = k.next }
+
+  -- a seat that takes in another is told what that one had seen, and has its announced call
+  abbrev pub joined : Known W U X L → Known W U X L → Known W U X L
+  joined k other = record k { hand = other.hand; told = other.seen }
+
+  -- a pass that is taken back leaves what it had seen and its caller's entries
+  abbrev pub taken_back : Known W U X L → Known W U X L → Known W U X L
+  taken_back k other = record k { told = other.seen; back = k.back ++ record { caller = other.caller; mine = other.mine } ∷ [] }
+
+  -- a seat that was joined into another
+  abbrev pub spent : Known W U X L
+  spent = bystander None []
+
+  -- ---- steps on words
+
+  -- the seat has seen the history so far, in which its caller's entries are its own, and this is pending
+  abbrev pub looked : Known W U X L → List (Entry U X L) → (ℕ → Option (Asked U)) → Known W U X L
+  looked k log pending = record k { seen = log; told = []; mine = mine k.caller log; announced = pending k.caller; steps = k.steps + 1 }
+
+  -- the history begins with what the seat had seen and was told, and is legal; the registrar had seen each entry with a place
+  pub record Covers (k : Known W U X L) (log : List (Entry U X L)) : Type 0 where
+    pub seen : StartsWith log k.seen
+    pub told : StartsWith log k.told
+    pub legal : (p : Plan W) → k.plan ≡ Some p → Legal (limits p) log
+    pub places : k.registrar ≡ true → HasNoPlaceSince log k.seen
+
+  module _ {D : Type 0} where
+    -- the history so far was seen
+    pub record Looked (step : Step (Cell D U)) (before : Me (Cell D U) (Known W U X L)) (found : ℕ) (new : Me (Cell D U) (Known W U X L)) : Type 0 where
+      pub log : List (Entry U X L)
+      pub pending : ℕ → Option (Asked U)
+      pub covers : Covers before.0 log
+      pub calls : 1 ≤ before.0.caller → GoesOn before.0.caller before.0.mine before.0.announced (mine before.0.caller log) (pending before.0.caller)
+      pub after : new ≡ (looked before.0 log pending, before.1)
+
+    -- this was announced, and the caller has no entry more
+    pub record HasAnnounced (asked : Asked U) (before new : Me (Cell D U) (Known W U X L)) : Type 0 where
+      pub log : List (Entry U X L)
+      pub pending : ℕ → Option (Asked U)
+      pub covers : Covers before.0 log
+      pub mine : mine before.0.caller log ≡ before.0.mine
+      pub pending_is : pending before.0.caller ≡ Some asked
+      pub after : new ≡ (record (looked before.0 log pending) { hand = Some (record { caller = before.0.caller; asked = asked }) }, before.1)
+
+    abbrev pub Announced : Step (Cell D U) → Me (Cell D U) (Known W U X L) → ℕ → Me (Cell D U) (Known W U X L) → Type 0
+    Announced step before found after = (asked : Asked U) → step.said ≡ some (Said asked) → HasAnnounced asked before after
+
+    -- nothing is announced any more, and the caller has no entry more
+    pub record Withdrawn (step : Step (Cell D U)) (before : Me (Cell D U) (Known W U X L)) (stored : ℕ) (new : Me (Cell D U) (Known W U X L)) : Type 0 where
+      pub log : List (Entry U X L)
+      pub pending : ℕ → Option (Asked U)
+      pub covers : Covers before.0 log
+      pub mine : mine before.0.caller log ≡ before.0.mine
+      pub none : pending before.0.caller ≡ None
+      pub after : new ≡ (record (looked before.0 log pending) { hand = None }, before.1)
+
+    -- the call in hand has this entry, behind a history that covers what the registrar had seen and was told
+    pub record HasExecuted (e : Entry U X L) (before new : Me (Cell D U) (Known W U X L)) : Type 0 where
+      pub log : List (Entry U X L)
+      pub pending : ℕ → Option (Asked U)
+      pub covers : Covers before.0 log
+      pub legal : (p : Plan W) → before.0.plan ≡ Some p → Legal (limits p) (log ++ e ∷ [])
+      pub after : new ≡ (record (looked before.0 (log ++ e ∷ []) pending) { hand = None }, before.1)
+
+    abbrev pub Executed : Step (Cell D U) → Me (Cell D U) (Known W U X L) → ℕ → Me (Cell D U) (Known W U X L) → Type 0
+    Executed step before stored after = (h : Hand U) → before.0.hand ≡ Some h → HasExecuted (Update h.caller h.asked.content) before after

@@ -1,0 +1,43 @@
+-- The words of a table, and what its machine allows.
+use Rattle.std.specs.Prelude.{◌≡◌, ℕ, ◌+◌, ◌*◌, Option, Some, None}
+use Rattle.registry_machine.specs.Machine.{Limits}
+use Rattle.searcher_table.specs.declared.board.Call.{Call}
+use Rattle.searcher_table.specs.declared.board.Call.TheVariants.{Open, Update}
+use Rattle.searcher_table.specs.declared.board.Asked.{Asked}
+use Rattle.searcher_table.specs.declared.board.Cell.{Cell}
+use Rattle.searcher_table.specs.declared.board.Cell.TheVariants.{Said}
+use Rattle.searcher_table.specs.declared.board.Plan.{Plan}
+
+abbrev pub word_count : ℕ
+word_count = 1168
+
+-- the word in which a caller announces
+abbrev pub call_word : ℕ → ℕ
+call_word caller = 640 + 8 * caller
+
+-- the number of a call
+abbrev pub code_of : Call → ℕ
+code_of Open = 1
+code_of Update = 2
+
+-- what a caller's word is while this is announced
+abbrev pub code : {U : Type 0} → Option (Asked U) → ℕ
+code None = 0
+code (Some asked) = code_of asked.call
+
+-- the cell says what is announced
+abbrev pub IsSaid : {D U : Type 0} → Cell D U → Type 0
+IsSaid {D} {U} cell = (asked : Asked U) × (cell ≡ Said asked)
+
+-- the last generation that can be opened
+abbrev pub last_generation : ℕ
+last_generation = 33554431
+
+-- each caller may keep a slot, each warming generation has one, and so has the current one; one is left
+abbrev pub limits : {W : Type 0} → Plan W → Limits
+limits p = record {
+  max_warming = p.max_warming;
+  slots = p.callers + p.max_warming + 2;
+  first_generation = p.first_generation;
+  last_generation = last_generation;
+}

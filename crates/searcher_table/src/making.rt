@@ -1,0 +1,137 @@
+ghost use Rattle.std.specs.Prelude.{◌≡◌, ◌≤◌, length, IfOk};
+ghost use Rattle.searcher_table.specs.Making.{setting_of, IsFor, AreDealt, IsOpening};
+
+use crate::NoMemory;
+use crate::board::{CELLS, Cell, Plan, Table, WORDS};
+use crate::pass::Pass;
+use crate::plays::Deal;
+use crate::registrar::Registrar;
+use crate::shown::Shown;
+use std::alloc::Global;
+use std::snapshot::Snapshot;
+use std::sync::Arc;
+
+/// Makes a table and gives a pass to each caller, numbered from 1, and the registrar. Nothing is current. They name this
+/// setting.
+///
+/// # Errors
+/// [`NoMemory`].
+pub fn make<D: Shown, U: Drop>(
+    alloc: Global,
+    setting: &D::Setting,
+    callers: u32,
+    max_warming: u32,
+    first_generation: u32,
+    budget: u32,
+) -> Result<(Vec<Pass<D, U>>, Registrar<D, U>), NoMemory>
+    requires callers { (1 ≤ callers) × (callers ≤ 64) }
+    requires warming { (1 ≤ max_warming) × (max_warming ≤ 4) }
+    requires generation { (1 ≤ first_generation) × (first_generation ≤ 33554431) }
+    requires budget { (1 ≤ budget) × (budget ≤ 67108863) }
+    ensures count { IfOk result (λ made. length made.0.items ≡ callers) }
+    ensures setting { IfOk result (λ made. setting_of made.1 ≡ setting.now) }
+    ensures numbers { IfOk result (λ m. IsFor callers max_warming first_generation budget m.1) }
+    ensures passes { IfOk result (λ made. AreDealt made.1 made.0.items) }
+    ensures registrar { IfOk result (λ made. IsOpening made.1) }
+{
+    let Ok(mut passes) = Vec::with_capacity(alloc, callers as usize) else {
+        return Err(NoMemory);
+    };
+    let plan = Plan {
+        setting: Snapshot::of(setting),
+        callers,
+        max_warming,
+        first_generation,
+        budget,
+    };
+    let mut registrar = Registrar::first(alloc, &plan)?;
+    for caller in 1..callers + 1 {
+        deal(&mut passes, &mut registrar, caller)?;
+    }
+    Ok((passes, registrar))
+}
+
+ghost use Rattle.std.specs.Prelude.{◌+◌, ◌<◌, vec_len, vec_capacity};
+ghost use Rattle.searcher_table.specs.Making.{ArePassesOf, IsNext};
+ghost use Rattle.searcher_table.specs.Registrars.{plan_of};
+
+// Puts the next caller's pass into the row.
+fn deal<D: Shown, U: Drop>(
+    passes: &mut Vec<Pass<D, U>>,
+    registrar: &mut Registrar<D, U>,
+    caller: u32,
+) -> Result<(), NoMemory>
+    requires room { vec_len passes.old < vec_capacity passes.old }
+    requires next { IsNext registrar.old passes.old.items caller }
+    requires few { caller ≤ 64 }
+    requires passes { ArePassesOf registrar.old passes.old.items }
+    ensures passes { IfOk result (λ _. ArePassesOf registrar.new passes.new.items) }
+    ensures next { IfOk result (λ _. IsNext registrar.new passes.new.items (caller + 1)) }
+    ensures plan { IfOk result (λ _. plan_of registrar.new ≡ plan_of registrar.old) }
+    ensures room { vec_capacity passes.new ≡ vec_capacity passes.old }
+{
+    let pass = registrar.deal(caller)?;
+    passes.push_reserved(pass);
+    Ok(())
+}
+
+ghost use Rattle.std.specs.Prelude.{◌*◌};
+
+// Cells without doors.
+fn empty_cells<D: Shown, U: Drop>(alloc: Global, count: usize) -> Result<Vec<Cell<D, U>>, NoMemory>
+    ensures { IfOk result (λ cells. length cells.items ≡ count) }
+{
+    let Ok(mut cells) = Vec::with_capacity(alloc, count) else {
+        return Err(NoMemory);
+    };
+    for _ in 0..count {
+        cells.push_reserved(Cell::Empty);
+    }
+    Ok(cells)
+}
+
+impl<D: Shown, U: Drop> Registrar<D, U> {
+    ghost use Rattle.std.specs.Prelude.{◌≡◌, ◌+◌, ◌≤◌, IfOk};
+    ghost use Rattle.searcher_table.specs.Registrars.{plan_of, table_of};
+    ghost use Rattle.searcher_table.specs.Making.{IsOpening, IsNewPass, next_of, HasDealt};
+
+    // The registrar of a new table, who has all passes.
+    fn first(alloc: Global, plan: &Plan<D::Setting>) -> Result<Registrar<D, U>, NoMemory>
+        requires callers { plan.now.callers ≤ 64 }
+        requires warming { plan.now.max_warming ≤ 4 }
+        ensures plan { IfOk result (λ r. plan_of r ≡ plan.now) }
+        ensures opening { IfOk result IsOpening }
+        ensures next { IfOk result (λ r. next_of r ≡ 1) }
+    {
+        let count = (plan.callers + plan.max_warming + 2) as usize * CELLS;
+        let cells = empty_cells(alloc, count)?;
+        let Ok((table, place)) = Table::new(alloc, &[0; WORDS], cells, plan) else {
+            return Err(NoMemory);
+        };
+        let Ok(table) = Arc::new(alloc, table) else {
+            return Err(NoMemory);
+        };
+        Ok(Registrar {
+            places: 0,
+            place,
+            table,
+        })
+    }
+
+    // Deals the next caller's pass.
+    fn deal(&mut self, caller: u32) -> Result<Pass<D, U>, NoMemory>
+        requires next { (next_of self.old ≡ caller) × (1 ≤ caller) × (caller ≤ 64) }
+        ensures registrar { IfOk result (λ _. HasDealt self.old self.new) }
+        ensures pass { IfOk result (λ pass. IsNewPass self.new caller pass) }
+    {
+        let Ok(table) = Arc::try_clone(&self.table) else {
+            return Err(NoMemory);
+        };
+        let place = self.table.shared.split_seat::<Deal>(&mut self.place);
+        Ok(Pass {
+            caller,
+            place,
+            table,
+        })
+    }
+}

@@ -1,0 +1,70 @@
+// The kinds of step, which are for the proofs alone.
+ghost use Rattle.searcher_table.specs.Steps.{Looked, Announced, Withdrawn, Executed, kept_back, handed_out, keeps_others, dealt_out, joined, taken_back, spent};
+
+use crate::board::{Cell, Known};
+use crate::shown::Shown;
+use atomic_table::{Join, Play, Split};
+
+// A word is read, and the history so far is seen.
+pub(crate) struct Look;
+
+impl<D: Shown, U> Play<Cell<D, U>, Known<D::Setting, U, D::Docs, D::Deed>> for Look {
+    ghost then = { Looked };
+}
+
+// A caller's word goes from 0 to the number of the call that it announces.
+pub(crate) struct Announce;
+
+impl<D: Shown, U> Play<Cell<D, U>, Known<D::Setting, U, D::Docs, D::Deed>> for Announce {
+    ghost then = { Announced };
+}
+
+// A caller's word goes back to 0, and what it announced has no entry.
+pub(crate) struct Withdraw;
+
+impl<D: Shown, U> Play<Cell<D, U>, Known<D::Setting, U, D::Docs, D::Deed>> for Withdraw {
+    ghost then = { Withdrawn };
+}
+
+// A caller's word goes back to 0, and the update that it announced has its entry.
+pub(crate) struct Execute;
+
+impl<D: Shown, U> Play<Cell<D, U>, Known<D::Setting, U, D::Docs, D::Deed>> for Execute {
+    ghost then = { Executed };
+}
+
+// What was seen goes along to a seat of its own, with what was announced, if anything is.
+pub(crate) struct HandOut;
+
+impl<W, U, X, L> Split<Known<W, U, X, L>> for HandOut {
+    ghost left = { kept_back };
+
+    ghost right = { handed_out };
+}
+
+// The next caller has a pass.
+pub(crate) struct Deal;
+
+impl<W, U, X, L> Split<Known<W, U, X, L>> for Deal {
+    ghost left = { keeps_others };
+
+    ghost right = { dealt_out };
+}
+
+// One seat has what both had.
+pub(crate) struct Gather;
+
+impl<W, U, X, L> Join<Known<W, U, X, L>> for Gather {
+    ghost both = { joined };
+
+    ghost spent = { spent };
+}
+
+// A registrar has what a pass leaves.
+pub(crate) struct TakeBack;
+
+impl<W, U, X, L> Join<Known<W, U, X, L>> for TakeBack {
+    ghost both = { taken_back };
+
+    ghost spent = { spent };
+}
