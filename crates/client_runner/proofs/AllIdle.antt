@@ -8,7 +8,7 @@ use Rattle.script_form.specs.declared.script.Line.{Line}
 use Rattle.run_laws.specs.Rows.{RequestRow, Output}
 use Rattle.run_laws.specs.Calls.{Call, calls_of}
 use Rattle.run_laws.specs.Lawful.{Ascends, Lawful, Shows, is_acquired_first}
-use Rattle.run_history.specs.Tellings.{Telling, Wanted, wants}
+use Rattle.run_history.specs.Tellings.{Telling, Life, Wanted, wants}
 use Rattle.run_history.specs.Agreement.{RepliesIdly}
 use Rattle.run_history.specs.Serial.{Stand, Serves, idle, first_life, start_entries}
 use Rattle.run_history.proofs.Requests.{idle_serves}

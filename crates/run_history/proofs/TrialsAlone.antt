@@ -6,14 +6,13 @@ use Rattle.search_model.specs.Answer.{Asked, answer}
 use Rattle.search_model.specs.Live.{added, nothing}
 use Rattle.search_model.specs.Reply.{accepted, no_memory, found}
 use Rattle.registry_machine.specs.declared.entry.Entry.TheVariants.{Open, Update, Finish, Acquire}
-use Rattle.registry_machine.specs.Legal.{Legal}
 use Rattle.registry_machine.proofs.Lists.{false_true}
 use Rattle.run_laws.specs.Rows.{add, query, commit}
 use Rattle.run_laws.specs.Trials.{one_warming, add_a, find_x, document_a, asked_x, row, added_at, committed_at, served, one_add, two_adds, one_query, add_commit_query, commits_in_turn}
 use Rattle.run_laws.proofs.Worked.{shows}
 use Rattle.run_history.specs.Tellings.{Wanted, an_answer}
 use Rattle.run_history.specs.Agreement.{IsReplied, RepliesIdly}
-use Rattle.run_history.specs.Trials.{Premise, rows, once, searchers, order, warmings, views, replies, released, read, limits, Keeps, BreaksAlone, call, tells, begun, first_life, placed_idly, untold, told_but_one, later_end, turned_round, told_backwards, warmed_early, commits_told, early_lives, blind, blindly_served, two_lives, one_added, told_without_memory, unreleased, served_once}
+use Rattle.run_history.specs.Trials.{Premise, rows, once, searchers, order, warmings, views, replies, released, read, Keeps, BreaksAlone, call, tells, begun, first_life, placed_idly, untold, told_but_one, later_end, turned_round, told_backwards, warmed_early, commits_told, early_lives, blind, blindly_served, two_lives, one_added, told_without_memory, unreleased, served_once}
 use Rattle.run_history.proofs.Indexed.{each_from_0, IsPlacedOnce, acquired_by, views_by}
 use Rattle.run_history.proofs.TrialParts.{adds_a, asks_x, same_docs, self_before, later_before, not_before, earlier_before, replied_by, pinned_once, pinned_two}
 

@@ -56,9 +56,9 @@ all_ok (Err y) P Q R S f p q r = tt
 pub loop-turn-init : goal.loop-turn-init
 loop-turn-init g c = record {
   served = subst (Served c.args.config.now []) (sym c.in_ok-runner.ensures.standing_is)
-      (subst (λ b. Served c.args.config.now [] (first b)) (sym c.is_acquired_first.ensures) (none_served c.args.config.now c.requires.warming));
-  ready = first_ready c.args.config.now c.is_acquired_first.result c.in_ok-runner.runner
-      (subst (λ k. IsFirst k c.is_acquired_first.result c.in_ok-runner.runner) c.key_field.ensures.number c.in_ok-runner.ensures);
+      (subst (λ b. Served c.args.config.now [] (first b)) (sym c.is_acquired_first-listened.ensures) (none_served c.args.config.now c.requires.warming));
+  ready = first_ready c.args.config.now c.is_acquired_first-listened.result c.in_ok-runner.runner
+      (subst (λ k. IsFirst k c.is_acquired_first-listened.result c.in_ok-runner.runner) c.key_field.ensures.number c.in_ok-runner.ensures);
 }
 
 pub bounds-get-turn : goal.bounds-get-turn
