@@ -189,21 +189,31 @@ fn merged(rt: &impl Abort, alloc: Global, view: &View) -> Result<View, Fail> {
     Ok(view.merge(alloc, 0)?)
 }
 
-// Two segments as one, without a deleted document; and as none, where all are deleted.
-fn check_merges(rt: &impl Abort, alloc: Global) -> Result<(), Fail> {
+// Two documents in each of two segments, the second one deleted.
+fn two_by_two(rt: &impl Abort, alloc: Global) -> Result<View, Fail> {
     let schema = Schema::read(alloc, &Value::from_str(alloc, SHOP)?)?;
-    let none = DocSet::new(alloc);
     let first = docs_of(alloc, &schema, &FIRST_TWO)?;
     let last = docs_of(alloc, &schema, &LAST_TWO)?;
-    let view = extended(rt, alloc, &View::empty(alloc)?, first, &none)?;
+    let view = extended(rt, alloc, &View::empty(alloc)?, first, &DocSet::new(alloc))?;
     let second = DocSet::from_sorted(alloc, &[1])?;
-    let view = extended(rt, alloc, &view, last, &second)?;
-    assert_eq!(rt; tell_live(rt, alloc, &view, 5)?.as_str(), "0a;2c;3d;");
-    let one = merged(rt, alloc, &view)?;
-    assert_eq!(rt; tell_live(rt, alloc, &one, 5)?.as_str(), "0a;1c;2d;");
+    extended(rt, alloc, &view, last, &second)
+}
+
+// The segments as one, without the deleted document.
+fn check_one(rt: &impl Abort, alloc: Global, view: &View) -> Result<(), Fail> {
+    let before = tell_live(rt, alloc, view, 5)?;
+    assert_eq!(rt; before.as_str(), "0a;2c;3d;");
+    let one = merged(rt, alloc, view)?;
+    let after = tell_live(rt, alloc, &one, 5)?;
+    assert_eq!(rt; after.as_str(), "0a;1c;2d;");
     assert_eq!(rt; (one.size(), one.segments()), (3, 1));
+    Ok(())
+}
+
+// The segments as none, where all documents are deleted.
+fn check_none(rt: &impl Abort, alloc: Global, view: &View) -> Result<(), Fail> {
     let all = DocSet::from_sorted(alloc, &[0, 2, 3])?;
-    let gone = extended(rt, alloc, &view, Vec::new(alloc), &all)?;
+    let gone = extended(rt, alloc, view, Vec::new(alloc), &all)?;
     let gone = merged(rt, alloc, &gone)?;
     assert_eq!(rt; (gone.len(), gone.size(), gone.segments()), (0, 0, 0));
     Ok(())
@@ -224,5 +234,7 @@ fn views_tell_their_live_documents(rt: HostRuntime) -> Result<(), Fail> {
     let merged = view.merge(alloc, 0)?;
     assert_eq!(rt; (merged.len(), merged.size(), merged.segments()), (3, 3, 1));
     check_rows(&rt, alloc, &merged)?;
-    check_merges(&rt, alloc)
+    let view = two_by_two(&rt, alloc)?;
+    check_one(&rt, alloc, &view)?;
+    check_none(&rt, alloc, &view)
 }
