@@ -11,6 +11,10 @@ use std::test::Fail;
 const TWO_FIELDS: &str =
     "{\"schema\":{\"fields\":[{\"name\":\"id\",\"type\":\"string\"},{\"name\":\"cat\",\"type\":\"string\"}],\"uniqueKey\":\"id\"}}\n%%\n";
 
+// Two fields, and a first searcher that serves before its listener has run.
+const LISTENED: &str =
+    "{\"schema\":{\"fields\":[{\"name\":\"id\",\"type\":\"string\"},{\"name\":\"cat\",\"type\":\"string\"}],\"uniqueKey\":\"id\"},\"useColdSearcher\":true,\"firstSearcher\":[\"q=*:*\"]}\n%%\n";
+
 const FOUR_TYPES: &str =
     "{\"df\":\"t\",\"documentCache\":{\"size\":2},\"filterCache\":{\"autowarmCount\":1,\"size\":2},\"maxWarmingSearchers\":1,\"queryResultCache\":{\"autowarmCount\":1,\"size\":2},\"queryResultMaxDocsCached\":4,\"queryResultWindowSize\":2,\"schema\":{\"fields\":[{\"name\":\"id\",\"type\":\"string\"},{\"name\":\"cat\",\"type\":\"string\"},{\"name\":\"price\",\"type\":\"plong\"},{\"name\":\"t\",\"type\":\"text_general\"}],\"uniqueKey\":\"id\"},\"useColdSearcher\":false,\"warmers\":1}\n%%\n";
 
@@ -90,12 +94,21 @@ fn check(
 }
 
 // Configurations with scripts, and what they write.
-const RUNS: [(&str, &str, &str); 8] = [
+const RUNS: [(&str, &str, &str); 9] = [
     (TWO_FIELDS, FOUND, FOUND_LINES),
     (
         FOUR_TYPES,
         "",
         "{\"acquired\":0,\"finished\":1,\"generation\":1,\"opened\":0}\n",
+    ),
+    (
+        LISTENED,
+        "1 query q=*:*\n1 commit\n",
+        "{\"client\":1,\"generation\":1,\"line\":1,\"reply\":{\"response\":{\"docs\":[],\"numFound\":0,\"numFoundExact\":true,\"start\":0},\"responseHeader\":{\"status\":0}},\"ticket\":1}
+{\"client\":1,\"generation\":2,\"line\":2,\"place\":2,\"reply\":{\"responseHeader\":{\"status\":0}}}
+{\"acquired\":3,\"finished\":1,\"from\":1,\"fromTicket\":0,\"generation\":1,\"opened\":0}
+{\"acquired\":0,\"finished\":3,\"from\":1,\"fromTicket\":2,\"generation\":2,\"opened\":2}
+",
     ),
     (
         TWO_FIELDS,
