@@ -1,8 +1,8 @@
 -- A caller that announces an update, has it executed and meets the registrar has just this entry more.
-use Rattle.std.proofs.Common.{◌≡◌, ℕ, List, [], ◌∷◌, ◌++◌, length, length-append, append-nil, append_assoc, count_by, refl, sym, ap, ◌∙◌, ⊎_elim, arith, None}
+use Rattle.std.proofs.Common.{true, ◌≡◌, ℕ, List, [], ◌∷◌, ◌++◌, length, length-append, append-nil, append_assoc, count_by, refl, sym, ap, ◌∙◌, ⊎_elim, arith, None}
 use Rattle.std.proofs.lemmas.List.{append_cancel_left}
 use Rattle.registry_machine.specs.declared.entry.Entry.{Entry}
-use Rattle.registry_machine.specs.declared.entry.Entry.TheVariants.{Update}
+use Rattle.registry_machine.specs.declared.entry.Entry.TheVariants.{TooMany, GenerationsSpent, Update}
 use Rattle.registry_machine.specs.Entries.{has_place}
 use Rattle.registry_machine.specs.Callers.{mine}
 use Rattle.searcher_table.specs.declared.board.Call.TheVariants.{Update as ToUpdate}
@@ -11,10 +11,14 @@ use Rattle.searcher_table.specs.declared.pass.Pass.{Pass}
 use Rattle.searcher_table.specs.declared.registrar.Registrar.{Registrar}
 use Rattle.searcher_table.specs.declared.tokens.Announced.{Announced}
 use Rattle.searcher_table.specs.declared.tokens.Sighting.{Sighting}
+use Rattle.searcher_table.specs.declared.tokens.OpenRefusal.{OpenRefusal}
+use Rattle.searcher_table.specs.declared.tokens.OpenRefusal.TheVariants.{TooMany as AsTooMany, GenerationsSpent as AsSpent}
+use Rattle.searcher_table.specs.Warming.{listed}
+use Rattle.searcher_table.specs.Openings.{IsRefused}
 use Rattle.searcher_table.specs.Views.{IsStill, WasExecuted}
 use Rattle.searcher_table.specs.Passes.{seen_of, mine_of, announced_of, sighted, HasSeenMore, HasLooked, HasAnnounced, HasMet, IsAnnouncedBy}
-use Rattle.searcher_table.specs.Registrars.{seen_of as seen_by, IsUnchanged, IsSightingOf, HasUpdated}
-use Rattle.searcher_table.specs.Trials.{HasOneMore}
+use Rattle.searcher_table.specs.Registrars.{seen_of as seen_by, IsUnchanged, IsSightingOf, HasEntry, HasUpdated}
+use Rattle.searcher_table.specs.Trials.{HasOneMore, HasOneCallMore}
 use Rattle.searcher_table.proofs.Frame.{own_joined}
 use Rattle.searcher_table.proofs.Passing.{nothing_more}
 use Rattle.searcher_table.proofs.Places.{same_places, one_place_more}
@@ -88,3 +92,19 @@ module _ {D U W X L : Type 0} {shows : Ghosts D W X L} where
             omega arith;
         mine = g.0 ∙ (λ i. same_own s m said.more i ++ Update (caller i) (by.asked i).content ∷ []);
       }
+
+  -- an entry with a place is one call more
+  pub one_call_more : (r q : Registrar D U W X L) (a : Announced D U W X L shows) (e : Entry U X L) → HasEntry r q a e → has_place e ≡ true → HasOneCallMore r q
+  one_call_more r q a e up has = record {
+    registrar = up.registrar;
+    places =
+        let j = ap (count_by has_place) up.entry in
+        let k = one_place_more up.before e has in
+        let l = same_places up.before (seen_by r) up.seen in
+        omega arith;
+  }
+
+  -- and so is a refusal
+  pub refused_counts : (r q : Registrar D U W X L) (a : Announced D U W X L shows) (why : OpenRefusal) → IsRefused r q a why → HasOneCallMore r q
+  refused_counts r q a (AsTooMany at gens) is = one_call_more r q a (TooMany a.caller a.asked.content (listed gens)) is.entry refl
+  refused_counts r q a (AsSpent at) is = one_call_more r q a (GenerationsSpent a.caller a.asked.content) is.entry refl

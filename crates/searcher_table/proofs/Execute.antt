@@ -6,7 +6,7 @@ use mathlib.Core.Logic.{dite}
 use native.Mathlib.Decide.{ℕ_discrete}
 use Rattle.std.specs.Prelude.{slice_index}
 use Rattle.std.proofs.lemmas.Option.{same_Some, none-some}
-use Rattle.atomic_table.specs.Table.{Me, Allows, keeps, step}
+use Rattle.atomic_table.specs.Table.{Me, Allows, keeps, step, stepped}
 use Rattle.registry_machine.specs.declared.entry.Entry.{Entry}
 use Rattle.registry_machine.specs.declared.entry.Entry.TheVariants.{Update}
 use Rattle.registry_machine.specs.Entries.{caller_of}
@@ -21,7 +21,7 @@ use Rattle.searcher_table.specs.declared.board.Plan.{Plan}
 use Rattle.searcher_table.specs.declared.board.Hand.{Hand}
 use Rattle.searcher_table.specs.declared.board.Own.{Own}
 use Rattle.searcher_table.specs.declared.board.Known.{Known}
-use Rattle.searcher_table.specs.Words.{call_word, code, limits}
+use Rattle.searcher_table.specs.Words.{call_word, code_of, code, limits}
 use Rattle.searcher_table.specs.Views.{Answers, IsStill, WasExecuted, GoesOn, HasNoPlaceSince}
 use Rattle.searcher_table.specs.Rule.{World, IsPass, IsHand, IsRegistrar, IsBack, Kept}
 use Rattle.searcher_table.specs.Steps.{looked, HasExecuted, Executed}
@@ -75,33 +75,34 @@ module _ {U X L : Type 0} (w : World U X L) (h : Hand U) (e : Entry U X L) (answ
   }
 
 -- the entry is one that may come next, whatever the history is by then
-abbrev pub MayCome : {W U X L : Type 0} → Known W U X L → Entry U X L → Type 0
-MayCome {W} {U} {X} {L} k e = (q : Plan W) (log : List (Entry U X L)) → k.plan ≡ Some q → Legal (limits q) log → HasNoPlaceSince log k.seen → IsAllowed (limits q) (state_of (limits q) log) e
+abbrev pub MayCome : {W U X L : Type 0} → Plan W → Known W U X L → Entry U X L → Type 0
+MayCome {W} {U} {X} {L} p k e = (log : List (Entry U X L)) → HasNoPlaceSince log k.seen → IsAllowed (limits p) (state_of (limits p) log) e
 
 module _ {D W U X L : Type 0} (p : Plan W) where
-  pub executes : (slots id : ℕ) (me : Me (Cell D U) (Known W U X L)) (i : ℕ) (h : Hand U) (e : Entry U X L) → i ≡ call_word h.caller → h.caller ≤ 64 → me.0.hand ≡ Some h → me.0.registrar ≡ true → me.0.plan ≡ Some p
-      → Answers h.caller h.asked e → MayCome me.0 e
-      → (then : Me (Cell D U) (Known W U X L) → Type 0) → ((new : Me (Cell D U) (Known W U X L)) → HasExecuted e me new → then new)
-      → Allows (Kept p) slots id me i (λ _. 0) (λ _. then)
-  executes slots id me i h e at_word few has role told answers may then tells s kept deep at small =
+  pub executes : (slots id : ℕ) (me : Me (Cell D U) (Known W U X L)) (i : ℕ) (f : ℕ → ℕ) (h : Hand U) (e : Entry U X L) → i ≡ call_word h.caller → 1 ≤ h.caller → h.caller ≤ 64 → f (code_of h.asked.call) ≡ 0 → me.0.hand ≡ Some h → me.0.registrar ≡ true
+      → Answers h.caller h.asked e → MayCome p me.0 e
+      → (then : ℕ → Me (Cell D U) (Known W U X L) → Type 0) → ((n : ℕ) (new : Me (Cell D U) (Known W U X L)) → HasExecuted e me new → then n new)
+      → Allows (Kept p) slots id me i f then
+  executes slots id me i f h e at_word low few zero has role answers may then tells s kept deep at small =
       let w = kept.world in
       let k = me.0 in
       let c : ℕ = h.caller in
       let all = kept.one.fits id k at in
-      let f = all.registrar role in
+      let r = all.registrar role in
       let hand = all.hand h has in
       let now : ℕ → Option (Asked U) = put c None w.pending in
       let log : List (Entry U X L) = w.log ++ e ∷ [] in
-      let legal : Legal (limits p) log = grows_legal (limits p) w.log e kept.legal (may p w.log told kept.legal f.seen) in
+      let legal : Legal (limits p) log = grows_legal (limits p) w.log e kept.legal (may w.log r.seen) in
+      let found : f (slice_index s.words i) ≡ 0 = ap f (ap (λ n. slice_index s.words n) at_word ∙ kept.one.calls c low few ∙ ap code hand.pending) ∙ zero in
       let new : Me (Cell D U) (Known W U X L) = (record (looked k log now) { hand = None }, me.1) in (
         new.0,
         keeps,
         tt,
-        record {
+        subst (λ (x : ℕ). Kept p (stepped s i x id me.1 new.0 keeps)) (sym found) record {
           words = length-set s.words i 0 ∙ kept.words;
           world = moved w log now w.hand_at;
           legal = legal;
-          one = one_after p w log now w.hand_at s.words (set s.words i 0) s.views id k None kept.one at (leaves w h e answers W id f.here hand.here hand.pending)
+          one = one_after p w log now w.hand_at s.words (set s.words i 0) s.views id k None kept.one at (leaves w h e answers W id r.here hand.here hand.pending)
               (λ d l g. subst (λ (n : ℕ). slice_index (set s.words n 0) (call_word d) ≡ code (now d)) (sym at_word) (calls_after s.words w.pending c 0 None kept.words few refl kept.one.calls d l g))
               (λ d past. let u = kept.one.undealt d past in
               let n : d ≢ c = λ same. none-some h.asked (sym u.0 ∙ ap w.pending same ∙ hand.pending) in
@@ -109,7 +110,7 @@ module _ {D W U X L : Type 0} (p : Plan W) where
               (λ g is. absurd (none-some g is))
               (all_map (IsBack w id) (IsBack (moved w log now w.hand_at) id) (λ o b. backs w h e answers id o hand.pending b) k.back all.back);
         },
-        tells new record {
+        tells (slice_index s.words i) new record {
           log = w.log;
           pending = now;
           covers = covers p w id k all kept.legal;
@@ -119,10 +120,10 @@ module _ {D W U X L : Type 0} (p : Plan W) where
       )
 
   -- an update may come at any time
-  pub updates : (slots id : ℕ) (me : Me (Cell D U) (Known W U X L)) (i : ℕ) (h : Hand U) → i ≡ call_word h.caller → h.caller ≤ 64 → me.0.hand ≡ Some h → me.0.registrar ≡ true → me.0.plan ≡ Some p
+  pub updates : (slots id : ℕ) (me : Me (Cell D U) (Known W U X L)) (i : ℕ) (h : Hand U) → i ≡ call_word h.caller → 1 ≤ h.caller → h.caller ≤ 64 → me.0.hand ≡ Some h → me.0.registrar ≡ true
       → h.asked.call ≡ ToUpdate → Allows (Kept p) slots id me i (λ _. 0) (λ _. Executed (step slots i 0 0 maybe.none) me 0)
-  updates slots id me i h at_word few has role told is =
-      executes slots id me i h (Update h.caller h.asked.content) at_word few has role told
-      record { caller = refl; content = refl; call = ap (λ x. Some x) (sym is) } (λ _ _ _ _ _. tt)
-      (λ new. Executed (step slots i 0 0 maybe.none) me 0 new)
-      (λ new done g e. subst (λ (x : Hand U). HasExecuted (Update x.caller x.asked.content) me new) (same_Some h g (sym has ∙ e)) done)
+  updates slots id me i h at_word low few has role is =
+      executes slots id me i (λ _. 0) h (Update h.caller h.asked.content) at_word low few refl has role
+      record { caller = refl; content = refl; call = ap (λ x. Some x) (sym is) } (λ _ _. tt)
+      (λ _ new. Executed (step slots i 0 0 maybe.none) me 0 new)
+      (λ _ new done g e. subst (λ (x : Hand U). HasExecuted (Update x.caller x.asked.content) me new) (same_Some h g (sym has ∙ e)) done)

@@ -50,6 +50,11 @@ module _ {A : Type 0} where
   all_map F G f [] all = tt
   all_map F G f (x ∷ xs) all = (f x all.0, all_map F G f xs all.1)
 
+  -- and so of the last
+  pub all_last : (F : A → Type 0) (xs : List A) (a : A) → AllByRecursion F (xs ++ a ∷ []) → F a
+  all_last F [] a all = all.0
+  all_last F (x ∷ xs) a all = all_last F xs a all.1
+
   -- a history begins with itself, and with what a beginning of it begins with
   pub starts_here : (log : List A) → StartsWith log log
   starts_here log = ([], sym (append-nil log))

@@ -5,11 +5,13 @@ pub mod Announce
 pub mod HandOut
 pub mod Gather
 pub mod Withdraw
+pub mod Quiet
 pub mod Execute
+pub mod Open
 pub mod Passing
 pub mod Places
 pub mod Registering
-pub mod Opening
+pub mod Beginning
 pub mod Deal
 pub mod Row
 pub mod Chain

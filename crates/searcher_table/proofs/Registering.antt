@@ -1,18 +1,22 @@
 -- What a step tells of a registrar.
-use Rattle.std.proofs.Common.{◌≡◌, ℕ, ◌+◌, true, List, [], ◌∷◌, ◌++◌, count_by, sym, ap, ◌∙◌, subst, arith, Option, None}
+use Rattle.std.proofs.Common.{◌≡◌, ℕ, ◌+◌, ◌≤◌, true, cond, List, [], ◌∷◌, ◌++◌, length, length-append, ne_eqb, count_by, sym, ap, ◌∙◌, subst, arith, Option, Some, None}
 use Rattle.atomic_table.specs.Table.{Me}
 use Rattle.registry_machine.specs.declared.entry.Entry.{Entry}
 use Rattle.registry_machine.specs.Entries.{has_place}
-use Rattle.registry_machine.specs.Legal.{Legal}
+use Rattle.registry_machine.specs.Machine.{State, after}
+use Rattle.registry_machine.specs.Legal.{Legal, state_of}
 use Rattle.searcher_table.specs.declared.board.Asked.{Asked}
 use Rattle.searcher_table.specs.declared.board.Cell.{Cell}
 use Rattle.searcher_table.specs.declared.board.Known.{Known}
 use Rattle.searcher_table.specs.declared.registrar.Registrar.{Registrar}
+use Rattle.searcher_table.specs.declared.board.Hand.{Hand}
 use Rattle.searcher_table.specs.Words.{limits}
+use Rattle.searcher_table.specs.Warming.{listed, last_in, warming_in, AreUnused}
 use Rattle.searcher_table.specs.Views.{StartsWith, HasNoPlaceSince}
-use Rattle.searcher_table.specs.Steps.{joined, Covers, HasExecuted}
+use Rattle.searcher_table.specs.Steps.{opening_of, joined, Covers, HasExecuted}
 use Rattle.searcher_table.specs.Registrars.{plan_of, seen_of}
 use Rattle.searcher_table.proofs.Passing.{Knows, knows, knows_joined}
+use Rattle.searcher_table.proofs.Quiet.{HasSameOpenings, same_trans, quiet_since, state_next}
 use Rattle.searcher_table.proofs.Places.{same_places, one_place_more}
 
 module _ {D U W X L : Type 0} where
@@ -26,6 +30,8 @@ module _ {D U W X L : Type 0} where
     pub legal : Legal (limits (plan_of r)) new.0.seen
     pub places : has_place e ≡ true → r.places + 1 ≡ count_by has_place new.0.seen
     pub bare : new.1 ≡ []
+    pub openings : HasSameOpenings (state_of (limits (plan_of r)) (seen_of r)) (state_of (limits (plan_of r)) log)
+    pub state : state_of (limits (plan_of r)) new.0.seen ≡ after (state_of (limits (plan_of r)) log) e
 
   pub executed : (r : Registrar D U W X L) (other : Known W U X L) (me new : Me (Cell D U) (Known W U X L)) (e : Entry U X L) → me ≡ (joined r.place.me.0 other, r.place.me.1) → HasExecuted e me new → HasEntered r other new e
   executed r other me new e is x =
@@ -48,6 +54,53 @@ module _ {D U W X L : Type 0} where
             let d = ap (count_by has_place) k.seen in
             omega arith;
         bare = ap (λ (m : Me (Cell D U) (Known W U X L)). m.1) x.after ∙ ap (λ (m : Me (Cell D U) (Known W U X L)). m.1) is ∙ r.bare;
+        openings = quiet_since (limits (plan_of r)) log (seen_of r) seen;
+        state = ap (state_of (limits (plan_of r))) k.seen ∙ state_next (limits (plan_of r)) log e;
+      }
+
+  -- what the registrar keeps of openings is true of a history with the same ones
+  pub record Mirrors (r : Registrar D U W X L) (new : List (Entry U X L)) : Type 0 where
+    pub last : r.last ≡ last_in (plan_of r) new
+    pub warming : listed r.warming ≡ warming_in (plan_of r) new
+    pub unused : AreUnused (plan_of r) new
+
+  pub mirrors : (r : Registrar D U W X L) (new : List (Entry U X L)) → HasSameOpenings (state_of (limits (plan_of r)) (seen_of r)) (state_of (limits (plan_of r)) new) → Mirrors r new
+  mirrors r new o = record {
+    last = r.last_is ∙ sym o.last;
+    warming = r.warming_are ∙ sym o.warming;
+    unused = λ slot le. o.free slot (r.unused slot (subst (λ (gs : List ℕ). length gs ≤ slot) o.warming le));
+  }
+
+  -- an entry that opens and ends nothing
+  pub entered_mirrors : (r : Registrar D U W X L) (other : Known W U X L) (new : Me (Cell D U) (Known W U X L)) (e : Entry U X L) → (x : HasEntered r other new e)
+      → HasSameOpenings (state_of (limits (plan_of r)) x.log) (after (state_of (limits (plan_of r)) x.log) e) → Mirrors r new.0.seen
+  entered_mirrors r other new e x o =
+      let l = limits (plan_of r) in
+      mirrors r new.0.seen (subst (λ (t : State). HasSameOpenings (state_of l (seen_of r)) t) (sym x.state)
+      (same_trans (state_of l (seen_of r)) (state_of l x.log) (after (state_of l x.log) e) x.openings o))
+
+  -- and one that opens the next generation
+  pub record HasOneMore (r : Registrar D U W X L) (new : List (Entry U X L)) : Type 0 where
+    pub last : r.last + 1 ≡ last_in (plan_of r) new
+    pub warming : listed r.warming ++ (r.last + 1) ∷ [] ≡ warming_in (plan_of r) new
+    pub unused : AreUnused (plan_of r) new
+
+  pub opened_mirrors : (r : Registrar D U W X L) (other : Known W U X L) (new : Me (Cell D U) (Known W U X L)) (h : Hand U) (shown : X) → HasEntered r other new (opening_of (plan_of r) (seen_of r) h shown)
+      → HasOneMore r new.0.seen
+  opened_mirrors r other new h shown x =
+      let l = limits (plan_of r) in
+      let s : State = state_of l (seen_of r) in
+      let t : State = state_of l x.log in
+      let o = x.openings in
+      let e : Entry U X L = opening_of (plan_of r) (seen_of r) h shown in
+      record {
+        last = ap (λ n. n + 1) r.last_is ∙ sym (ap (λ (z : State). z.last_opened) x.state);
+        warming = (λ i. (r.warming_are ∙ sym o.warming) i ++ (r.last_is i + 1) ∷ []) ∙ sym (ap (λ (z : State). z.warming) x.state);
+        unused = λ slot le.
+            let long : length t.warming + 1 ≤ slot = (let a = ap (λ (z : State). length z.warming) x.state in let b = length-append t.warming ((s.last_opened + 1) ∷ []) in omega arith) in
+            let same : length t.warming ≡ length s.warming = ap length o.warming in
+            ap (λ (z : State). z.slots slot) x.state ∙ ap (λ b. cond b (Some (s.last_opened + 1)) (t.slots slot)) (ne_eqb slot (length s.warming) (λ is. absurd (omega arith)))
+            ∙ o.free slot (r.unused slot (omega arith));
       }
 
   -- the registrar has seen a history with no place more
@@ -56,6 +109,7 @@ module _ {D U W X L : Type 0} where
     pub covers : StartsWith new.seen other.seen
     pub legal : Legal (limits (plan_of r)) new.seen
     pub places : r.places ≡ count_by has_place new.seen
+    pub mirrors : Mirrors r new.seen
 
   pub has_seen : (r : Registrar D U W X L) (other new : Known W U X L) (me : Me (Cell D U) (Known W U X L)) (log : List (Entry U X L)) → me ≡ (joined r.place.me.0 other, r.place.me.1) → Covers me.0 log → new.seen ≡ log → HasSeen r other new
   has_seen r other new me log is covers sees =
@@ -65,4 +119,5 @@ module _ {D U W X L : Type 0} where
         covers = v.told;
         legal = v.legal (plan_of r) r.told;
         places = r.counted ∙ sym (same_places new.seen (seen_of r) (v.places r.role));
+        mirrors = mirrors r new.seen (quiet_since (limits (plan_of r)) new.seen (seen_of r) (v.places r.role));
       }

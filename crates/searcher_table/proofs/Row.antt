@@ -11,7 +11,7 @@ got_last [] a x (suc i) e = let p : None ≡ Some x = e in absurd (cc)
 got_last (y ∷ ys) a x zero e = inl e
 got_last (y ∷ ys) a x (suc i) e = ⊎_elim (λ s. inl s) (λ s. inr (ap suc s.0, s.1)) (got_last ys a x i e)
 
-got_here : {A : Type 0} (xs : List A) (a : A) → slice_get (xs ++ a ∷ []) (length xs) ≡ Some a
+pub got_here : {A : Type 0} (xs : List A) (a : A) → slice_get (xs ++ a ∷ []) (length xs) ≡ Some a
 got_here [] a = refl
 got_here (x ∷ xs) a = got_here xs a
 

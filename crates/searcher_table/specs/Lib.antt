@@ -1,8 +1,10 @@
 pub mod Words
+pub mod Warming
 pub mod Views
 pub mod Rule
 pub mod Steps
 pub mod Passes
 pub mod Registrars
+pub mod Openings
 pub mod Making
 pub mod Trials

@@ -83,12 +83,16 @@ module _ {D U W X L : Type 0} {shows : Ghosts D W X L} where
     pub table : a.place.table_id ≡ table_of r
     pub call : a.asked.call ≡ ToUpdate
 
-  -- the call's entry comes last, behind a history that covers what the registrar and the caller had seen
-  pub record HasUpdated (s t : Registrar D U W X L) (a : Announced D U W X L shows) : Type 0 where
+  -- this entry of the call comes last, behind a history that covers what the registrar and the caller had seen
+  pub record HasEntry (s t : Registrar D U W X L) (a : Announced D U W X L shows) (e : Entry U X L) : Type 0 where
     pub registrar : IsSameRegistrar s t
     pub legal : IsSound t
     pub back : back_of t ≡ back_of s
     pub before : List (Entry U X L)
     pub seen : HasNoPlaceSince before (seen_of s)
     pub covers : StartsWith before (seen_before a)
-    pub entry : seen_of t ≡ before ++ Update a.caller a.asked.content ∷ []
+    pub entry : seen_of t ≡ before ++ e ∷ []
+
+  -- the update was executed
+  abbrev pub HasUpdated : Registrar D U W X L → Registrar D U W X L → Announced D U W X L shows → Type 0
+  HasUpdated s t a = HasEntry s t a (Update a.caller a.asked.content)

@@ -1,14 +1,14 @@
 -- What each kind of step tells the seat that makes it, and how views are split and joined.
-use Rattle.std.specs.Prelude.{◌≡◌, ℕ, ◌+◌, ◌≤◌, true, false, List, [], ◌∷◌, ◌++◌, Option, Some, None}
+use Rattle.std.specs.Prelude.{◌≡◌, ℕ, ◌+◌, ◌≤◌, true, false, List, [], ◌∷◌, ◌++◌, length, Option, Some, None}
 use mathlib.Core.Option.{some}
 use Rattle.atomic_table.specs.Table.{Me, Step}
 use Rattle.registry_machine.specs.declared.entry.Entry.{Entry}
-use Rattle.registry_machine.specs.declared.entry.Entry.TheVariants.{Update}
-use Rattle.registry_machine.specs.Legal.{Legal}
+use Rattle.registry_machine.specs.declared.entry.Entry.TheVariants.{Open, TooMany, GenerationsSpent, Update}
+use Rattle.registry_machine.specs.Legal.{Legal, state_of}
 use Rattle.registry_machine.specs.Callers.{mine}
 use Rattle.searcher_table.specs.declared.board.Asked.{Asked}
 use Rattle.searcher_table.specs.declared.board.Cell.{Cell}
-use Rattle.searcher_table.specs.declared.board.Cell.TheVariants.{Said}
+use Rattle.searcher_table.specs.declared.board.Cell.TheVariants.{Full, Said}
 use Rattle.searcher_table.specs.declared.board.Plan.{Plan}
 use Rattle.searcher_table.specs.declared.board.Hand.{Hand}
 use Rattle.searcher_table.specs.declared.board.Known.{Known}
@@ -16,6 +16,10 @@ use Rattle.searcher_table.specs.Words.{limits}
 use Rattle.searcher_table.specs.Views.{StartsWith, HasNoPlaceSince, GoesOn}
 
 module _ {W U X L : Type 0} where
+  -- the entry of an opening that shows these documents
+  abbrev pub opening_of : Plan W → List (Entry U X L) → Hand U → X → Entry U X L
+  opening_of p seen h shown = Open h.caller h.asked.content ((state_of (limits p) seen).last_opened + 1) (length (state_of (limits p) seen).warming) shown
+
   -- ---- splits and joins
 
   -- a seat with none of these rights, which has seen this
@@ -113,3 +117,17 @@ module _ {W U X L : Type 0} where
 
     abbrev pub Executed : Step (Cell D U) → Me (Cell D U) (Known W U X L) → ℕ → Me (Cell D U) (Known W U X L) → Type 0
     Executed step before stored after = (h : Hand U) → before.0.hand ≡ Some h → HasExecuted (Update h.caller h.asked.content) before after
+
+    -- the opening in hand was refused as too many, and these were told
+    abbrev pub RefusedTooMany : Step (Cell D U) → Me (Cell D U) (Known W U X L) → ℕ → Me (Cell D U) (Known W U X L) → Type 0
+    RefusedTooMany step before stored after = (h : Hand U) (p : Plan W) → before.0.hand ≡ Some h → before.0.plan ≡ Some p
+        → HasExecuted (TooMany h.caller h.asked.content (state_of (limits p) before.0.seen).warming) before after
+
+    -- the opening in hand was refused, since the last generation had been opened
+    abbrev pub RefusedSpent : Step (Cell D U) → Me (Cell D U) (Known W U X L) → ℕ → Me (Cell D U) (Known W U X L) → Type 0
+    RefusedSpent step before stored after = (h : Hand U) → before.0.hand ≡ Some h → HasExecuted (GenerationsSpent h.caller h.asked.content) before after
+
+    -- the opening in hand has the next generation, in the slot behind those of the warming ones, with the documents of this door
+    abbrev pub Opened : (D → X) → Step (Cell D U) → Me (Cell D U) (Known W U X L) → ℕ → Me (Cell D U) (Known W U X L) → Type 0
+    Opened docs step before found after = (h : Hand U) (p : Plan W) (door : D) → before.0.hand ≡ Some h → before.0.plan ≡ Some p → step.said ≡ some (Full door)
+        → HasExecuted (opening_of p before.0.seen h (docs door)) before after

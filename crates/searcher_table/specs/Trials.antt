@@ -1,12 +1,13 @@
 -- What the tests say of passes at one table.
-use Rattle.std.specs.Prelude.{◌≡◌, ℕ, ◌+◌, ◌≤◌, [], ◌∷◌, ◌++◌, None}
+use Rattle.std.specs.Prelude.{◌≡◌, ℕ, ◌+◌, ◌≤◌, List, [], ◌∷◌, ◌++◌, length, None}
+use Rattle.std.specs.List.{AllByRecursion}
 use Rattle.registry_machine.specs.declared.entry.Entry.TheVariants.{Update}
 use Rattle.searcher_table.specs.declared.pass.Pass.{Pass}
 use Rattle.searcher_table.specs.declared.registrar.Registrar.{Registrar}
 use Rattle.searcher_table.specs.Passes.{mine_of, announced_of, IsSamePass}
 use Rattle.searcher_table.specs.Passes as pass
 use Rattle.searcher_table.specs.Making.{IsNewPass}
-use Rattle.searcher_table.specs.Registrars.{table_of, places_of, IsSameRegistrar}
+use Rattle.searcher_table.specs.Registrars.{table_of, plan_of, places_of, IsSameRegistrar}
 
 module _ {D U W X L : Type 0} where
   -- the new passes of callers 1 and 2
@@ -34,3 +35,17 @@ module _ {D U W X L : Type 0} where
   pub record HasNothingOut (s t : Pass D U W X L) : Type 0 where
     pub pass : IsSamePass s t
     pub none : announced_of t ≡ None
+
+  -- a table of two callers, whose doors are made with this
+  pub record IsForTwo (about : W) (r : Registrar D U W X L) : Type 0 where
+    pub callers : (plan_of r).callers ≡ 2
+    pub setting : (plan_of r).setting.value ≡ about
+
+  -- a call was executed by the registrar r, which is now q
+  pub record HasOneCallMore (r q : Registrar D U W X L) : Type 0 where
+    pub registrar : IsSameRegistrar r q
+    pub places : places_of q ≡ places_of r + 1
+
+-- two doors, each of which shows this
+abbrev pub AreTwo : {D : Type 0} → (D → ℕ) → ℕ → List D → Type 0
+AreTwo shows n doors = (length doors ≡ 2) × AllByRecursion (λ d. shows d ≡ n) doors

@@ -20,6 +20,9 @@ pub(crate) const CALLS: usize = 640;
 
 pub(crate) const WORDS: usize = 1168;
 
+/// The last generation that can be opened.
+pub(crate) const LAST_GENERATION: u32 = 33_554_431;
+
 /// Cells of one slot of the registry, one for each caller that there may be.
 pub(crate) const CELLS: usize = 64;
 

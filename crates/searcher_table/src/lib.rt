@@ -6,6 +6,7 @@
 #![tactic(auto)]
 
 mod board;
+mod gens;
 mod making;
 mod pass;
 mod plays;
@@ -14,11 +15,12 @@ mod shown;
 mod tokens;
 
 pub use board::{Asked, Call};
+pub use gens::Gens;
 pub use making::make;
 pub use pass::Pass;
 pub use registrar::Registrar;
 pub use shown::Shown;
-pub use tokens::{Announced, Sighting};
+pub use tokens::{Announced, OpenRefusal, Opening, Sighting};
 
 /// Memory was wanting.
 #[derive(Clone, Copy, Debug, PartialEq, Eq)]

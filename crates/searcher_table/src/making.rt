@@ -3,6 +3,7 @@ ghost use Rattle.searcher_table.specs.Making.{setting_of, IsFor, AreDealt, IsOpe
 
 use crate::NoMemory;
 use crate::board::{CELLS, Cell, Plan, Table, WORDS};
+use crate::gens::Gens;
 use crate::pass::Pass;
 use crate::plays::Deal;
 use crate::registrar::Registrar;
@@ -97,8 +98,10 @@ impl<D: Shown, U: Drop> Registrar<D, U> {
 
     // The registrar of a new table, who has all passes.
     fn first(alloc: Global, plan: &Plan<D::Setting>) -> Result<Registrar<D, U>, NoMemory>
-        requires callers { plan.now.callers ≤ 64 }
+        requires callers { (1 ≤ plan.now.callers) × (plan.now.callers ≤ 64) }
         requires warming { plan.now.max_warming ≤ 4 }
+        requires first { 1 ≤ plan.now.first_generation }
+        requires last { plan.now.first_generation ≤ 33554431 }
         ensures plan { IfOk result (λ r. plan_of r ≡ plan.now) }
         ensures opening { IfOk result IsOpening }
         ensures next { IfOk result (λ r. next_of r ≡ 1) }
@@ -113,6 +116,9 @@ impl<D: Shown, U: Drop> Registrar<D, U> {
         };
         Ok(Registrar {
             places: 0,
+            max_warming: plan.max_warming,
+            last: plan.first_generation - 1,
+            warming: Gens::none(),
             place,
             table,
         })

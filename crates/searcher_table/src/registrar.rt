@@ -1,18 +1,28 @@
-ghost use Rattle.std.specs.Prelude.{◌≡◌, true, [], Some, None, count_by};
+ghost use Rattle.std.specs.Prelude.{◌≡◌, ◌≤◌, true, [], Some, None, count_by, length};
 ghost use Rattle.std.specs.Arc.{arc_value};
 ghost use Rattle.registry_machine.specs.Entries.{has_place};
+ghost use Rattle.searcher_table.specs.Warming.{listed, last_in, warming_in, AreUnused};
 
-use crate::board::{CALLS, Place, REGISTRAR, SharedTable};
+use crate::board::{CALLS, Cell, LAST_GENERATION, Place, REGISTRAR, SharedTable};
+use crate::gens::Gens;
 use crate::pass::Pass;
-use crate::plays::{Execute, Gather, HandOut, Look, TakeBack};
+use crate::plays::{
+    Execute, Gather, HandOut, Look, OpenNext, RefuseSpent, RefuseTooMany, TakeBack,
+};
 use crate::shown::Shown;
-use crate::tokens::{Announced, Sighting};
+use crate::tokens::{Announced, OpenRefusal, Opening, Sighting};
 
 /// Who executes the calls that are announced at a table, one after another.
 #[derive(Drop)]
 pub struct Registrar<D: Shown, U: Drop> {
     // How many entries with a place there are.
     pub(crate) places: u64,
+    // The greatest number of warming generations.
+    pub(crate) max_warming: u32,
+    // The generation that was opened last.
+    pub(crate) last: u32,
+    // Those that are warming.
+    pub(crate) warming: Gens,
     pub(crate) place: Place<D, U, D::Setting, D::Docs, D::Deed>,
     pub(crate) table: SharedTable<D, U, D::Setting, D::Docs, D::Deed>,
     ghost at_table: { place.table_id ≡ (arc_value table).shared.table_id },
@@ -20,14 +30,25 @@ pub struct Registrar<D: Shown, U: Drop> {
     ghost told: { place.me.0.plan ≡ Some (arc_value table).shared.key },
     ghost role: { place.me.0.registrar ≡ true },
     ghost counted: { places ≡ count_by has_place place.me.0.seen },
+    ghost most: { max_warming ≡ (arc_value table).shared.key.max_warming },
+    ghost few: { max_warming ≤ 4 },
+    ghost some: { 1 ≤ (arc_value table).shared.key.callers },
+    ghost last_is: { last ≡ last_in (arc_value table).shared.key place.me.0.seen },
+    ghost warming_are: { listed warming ≡ warming_in (arc_value table).shared.key place.me.0.seen },
+    ghost crowd: { length (listed warming) ≤ max_warming },
+    ghost within: { last ≤ 33554431 },
+    ghost unused: { AreUnused (arc_value table).shared.key place.me.0.seen },
     ghost empty_handed: { place.me.0.hand ≡ None },
     ghost bare: { place.me.1 ≡ [] },
 }
 
 impl<D: Shown, U: Drop> Registrar<D, U> {
-    ghost use Rattle.std.specs.Prelude.{◌≡◌, ◌<◌, None};
+    ghost use Rattle.std.specs.Prelude.{◌≡◌, ◌<◌, None, IfOk, IfErr, IsTrue};
+    ghost use Rattle.searcher_table.specs.Words.{last_generation};
+    ghost use Rattle.searcher_table.specs.Openings.{warming_of, last_of, HasRoom, MayOpen, AreDoors, IsOpenHere};
+    ghost use Rattle.searcher_table.specs.Openings.{HasOpened, IsTooMany, IsSpent, IsRefused};
     ghost use Rattle.searcher_table.specs.Passes.{sighted_at, announced_of, table_of as table_of_pass};
-    ghost use Rattle.searcher_table.specs.Registrars.{table_of, places_of};
+    ghost use Rattle.searcher_table.specs.Registrars.{table_of, plan_of, places_of};
     ghost use Rattle.searcher_table.specs.Registrars.{IsUnchanged, IsSightingOf, HasMet};
     ghost use Rattle.searcher_table.specs.Registrars.{IsUpdateHere, HasUpdated, HasTakenBack};
 
@@ -52,6 +73,120 @@ impl<D: Shown, U: Drop> Registrar<D, U> {
         let at = self.places;
         self.places += 1;
         (at, asked.content)
+    }
+
+    /// Whether an opening that is executed now is not refused.
+    pub fn may_open(&self) -> bool
+        ensures yes { IsTrue result → MayOpen self.now }
+        ensures no { MayOpen self.now → IsTrue result }
+    {
+        self.warming.get().len() < self.max_warming as usize && self.last < LAST_GENERATION
+    }
+
+    /// Executes an announced opening: it opens the next generation, which is then warming, with these doors for the
+    /// callers. It takes no memory and doesn't wait.
+    ///
+    /// # Errors
+    /// [`OpenRefusal`]: `TooMany` exactly where as many generations are warming as may be, else `GenerationsSpent`
+    /// exactly where the last one was opened. The doors come back.
+    pub fn execute_open(
+        &mut self,
+        call: Announced<D, U>,
+        doors: Vec<D>,
+    ) -> Result<Opening<D, U>, (OpenRefusal, Vec<D>)>
+        requires call { IsOpenHere self.old call }
+        requires room { places_of self.old < 18446744073709551615 }
+        requires fit { MayOpen self.old → AreDoors D.setting D.docs D.list self.old doors.items }
+        ensures opened { IfOk result (λ o. HasOpened D.docs self.old self.new call doors.items o) }
+        ensures refused { IfErr result (λ r. IsRefused self.old self.new call r.0) }
+        ensures doors { IfErr result (λ r. r.1 ≡ doors) }
+    {
+        if self.warming.get().len() >= self.max_warming as usize {
+            let warming = self.warming.again();
+            let place = self.refuse_too_many(call);
+            return Err((OpenRefusal::TooMany { place, warming }, doors));
+        }
+        if self.last >= LAST_GENERATION {
+            let place = self.refuse_spent(call);
+            return Err((OpenRefusal::GenerationsSpent { place }, doors));
+        }
+        Ok(self.open(call, doors))
+    }
+
+    // Gives the opening its entry as too many, and that one's place.
+    fn refuse_too_many(&mut self, call: Announced<D, U>) -> u64
+        requires call { IsOpenHere self.old call }
+        requires room { places_of self.old < 18446744073709551615 }
+        requires full { length (warming_of self.old) ≡ (plan_of self.old).max_warming }
+        ensures { IsTooMany self.old self.new call result (warming_of self.old) }
+    {
+        let Announced {
+            caller,
+            asked: _asked,
+            place,
+        } = call;
+        let word = CALLS + 8 * caller as usize;
+        let shared = &self.table.shared;
+        shared.join_seat::<Gather>(&mut self.place, place);
+        shared.store::<RefuseTooMany>(&mut self.place, word, 0);
+        let at = self.places;
+        self.places += 1;
+        at
+    }
+
+    // Gives the opening its entry for spent generations, and that one's place.
+    fn refuse_spent(&mut self, call: Announced<D, U>) -> u64
+        requires call { IsOpenHere self.old call }
+        requires room { places_of self.old < 18446744073709551615 }
+        requires free { HasRoom self.old }
+        requires last { last_of self.old ≡ last_generation }
+        ensures { IsSpent self.old self.new call result }
+    {
+        let Announced {
+            caller,
+            asked: _asked,
+            place,
+        } = call;
+        let word = CALLS + 8 * caller as usize;
+        let shared = &self.table.shared;
+        shared.join_seat::<Gather>(&mut self.place, place);
+        shared.store::<RefuseSpent>(&mut self.place, word, 0);
+        let at = self.places;
+        self.places += 1;
+        at
+    }
+
+    // Opens the next generation.
+    fn open(&mut self, call: Announced<D, U>, mut doors: Vec<D>) -> Opening<D, U>
+        requires call { IsOpenHere self.old call }
+        requires room { places_of self.old < 18446744073709551615 }
+        requires may { MayOpen self.old }
+        requires doors { AreDoors D.setting D.docs D.list self.old doors.items }
+        ensures { HasOpened D.docs self.old self.new call doors.items result }
+    {
+        let Some(door) = doors.pop() else {
+            unreachable!()
+        };
+        let Announced {
+            caller,
+            asked: _asked,
+            place,
+        } = call;
+        let word = CALLS + 8 * caller as usize;
+        let said = Cell::Full(door);
+        let shared = &self.table.shared;
+        shared.join_seat::<Gather>(&mut self.place, place);
+        shared.compare_exchange_with::<OpenNext>(&mut self.place, word, 1, 0, &said);
+        let seat = shared.split_seat::<HandOut>(&mut self.place);
+        let at = self.places;
+        self.places += 1;
+        self.last += 1;
+        self.warming.add(self.last);
+        Opening {
+            generation: self.last,
+            at,
+            seat,
+        }
     }
 
     /// What the registrar has seen, for a pass to meet. It takes no memory and doesn't wait.

@@ -3,8 +3,9 @@ ghost use Rattle.searcher_table.specs.Passes.{mine_of, announced_of};
 ghost use Rattle.searcher_table.specs.Making.{AreDealt};
 ghost use Rattle.searcher_table.specs.Registrars.{places_of, IsSameRegistrar};
 ghost use Rattle.searcher_table.specs.Trials.{ArePair, IsReady, HasRoom, HasOneMore, HasNothingOut};
+ghost use Rattle.searcher_table.specs.Trials.{IsForTwo, HasOneCallMore, AreTwo};
 
-use crate::{Call, Pass, Registrar, Shown, make};
+use crate::{Call, OpenRefusal, Pass, Registrar, Shown, make};
 use std::alloc::Global;
 use std::test::Fail;
 use std::thread::{Threads, join};
@@ -156,5 +157,101 @@ fn calls_have_places_in_one_history(rt: HostRuntime) -> Result<(), Fail> {
     let (places, back, right, last) = all_of(&rt, rt.alloc()).expect(&rt, "there is memory");
     assert_eq!(rt; (places, back), ([0, 1], 8));
     assert_eq!(rt; (right, last), (ROUNDS - 1, 10_002));
+    Ok(())
+}
+
+// Two doors that show 9.
+fn two_doors(alloc: Global) -> Option<Vec<Door>>
+    ensures { IfSome result (λ doors. AreTwo (λ d. d.number) 9 doors.items) }
+{
+    let Ok(mut doors) = Vec::with_capacity(alloc, 2) else {
+        return None;
+    };
+    doors.push_reserved(Door { number: 9 });
+    doors.push_reserved(Door { number: 9 });
+    Some(doors)
+}
+
+// What the opening of a caller is answered: the generation and the place, or the refusal.
+fn open(
+    pass: &mut Pass<Door, u32>,
+    registrar: &mut Registrar<Door, u32>,
+    doors: Vec<Door>,
+) -> Result<(u32, u64), OpenRefusal>
+    requires ready { IsReady registrar.old pass.old }
+    requires room { HasRoom registrar.old 1 }
+    requires table { IsForTwo 0 registrar.old }
+    requires doors { AreTwo (λ d. d.number) 9 doors.items }
+    ensures { HasOneCallMore registrar.old registrar.new }
+{
+    let call = pass.announce(Call::Open, 0);
+    match registrar.execute_open(call, doors) {
+        Ok(opening) => Ok((opening.generation(), opening.place())),
+        Err((refusal, _doors)) => Err(refusal),
+    }
+}
+
+// The place of a refusal, and the generations that it tells.
+fn refused(answer: &Result<(u32, u64), OpenRefusal>) -> Option<(u64, usize, u32)> {
+    match answer {
+        Ok(_) => None,
+        Err(OpenRefusal::TooMany { place, warming }) => {
+            let told = warming.get();
+            Some((*place, told.len(), *told.first()?))
+        }
+        Err(OpenRefusal::GenerationsSpent { place }) => Some((*place, 0, 0)),
+    }
+}
+
+type Answer = Result<(u32, u64), OpenRefusal>;
+
+// What two openings in turn are answered, and whether one may be made before, between and afterwards.
+fn two_openings(
+    alloc: Global,
+    max_warming: u32,
+    first_generation: u32,
+) -> Option<(Answer, Answer, [bool; 3])>
+    requires warming { (1 ≤ max_warming) × (max_warming ≤ 2) }
+    requires generation { (1 ≤ first_generation) × (first_generation ≤ 33554431) }
+{
+    let Ok((passes, mut registrar)) = make::<Door, u32>(
+        alloc,
+        &0,
+        2,
+        max_warming,
+        first_generation,
+        1,
+    ) else {
+        return None;
+    };
+    let (mut one, mut two) = pair_of(&registrar, passes)?;
+    let before = registrar.may_open();
+    let first = open(&mut one, &mut registrar, two_doors(alloc)?);
+    let between = registrar.may_open();
+    let second = open(&mut two, &mut registrar, two_doors(alloc)?);
+    let after = registrar.may_open();
+    Some((first, second, [before, between, after]))
+}
+
+#[test]
+fn openings_are_numbered_or_refused(rt: HostRuntime) -> Result<(), Fail> {
+    let (first, second, may) = two_openings(rt.alloc(), 2, 1).expect(&rt, "there is memory");
+    assert!(rt; matches!(first, Ok((1, 0))) && matches!(second, Ok((2, 1))));
+    assert_eq!(rt; may, [true, true, false]);
+    let (first, second, may) = two_openings(rt.alloc(), 1, 5).expect(&rt, "there is memory");
+    assert!(rt; matches!(first, Ok((5, 0))));
+    assert_eq!(rt;
+        (refused(&second), may),
+        (Some((1, 1, 5)), [true, false, false])
+    );
+    let (first, second, may) = two_openings(rt.alloc(), 2, 33_554_431).expect(
+        &rt,
+        "there is memory",
+    );
+    assert!(rt; matches!(first, Ok((33_554_431, 0))));
+    assert_eq!(rt;
+        (refused(&second), may),
+        (Some((1, 0, 0)), [true, false, false])
+    );
     Ok(())
 }

@@ -1,7 +1,7 @@
-use Rattle.std.proofs.Common.{◌≡◌, ◌+◌, ◌*◌, ◌∙◌, Some, refl, sym, ap, arith}
+use Rattle.std.proofs.Common.{◌≡◌, ◌+◌, ◌*◌, ◌∙◌, refl, sym, ap, arith}
 use Rattle.searcher_table.specs.declared.board.Hand.{Hand}
 use Rattle.registry_machine.specs.declared.entry.Entry.TheVariants.{Update}
-use Rattle.searcher_table.proofs.Registering.{executed}
+use Rattle.searcher_table.proofs.Registering.{executed, entered_mirrors}
 use Rattle.searcher_table.proofs.Gather.{joins}
 use Rattle.searcher_table.proofs.Execute.{updates}
 use Rattle.searcher_table.proofs.registrar.Registrar.execute_update.Goals as goal
@@ -34,7 +34,7 @@ store-requires g c =
       e.0 ∙ same,
       omega arith,
       updates table.key table.table_id.slots c.join_seat.new.seat.id me (640 + 8 * call.caller) hand
-          refl call.ranged.1 (ap (λ m. m.0.hand) e.2 ∙ call.in_hand) (ap (λ m. m.0.registrar) e.2 ∙ registrar.role) (ap (λ m. m.0.plan) e.2 ∙ registrar.told ∙ ap (λ t. Some t.shared.key) (sym c.deref.ensures)) c.requires.call.call,
+          refl call.ranged.0 call.ranged.1 (ap (λ m. m.0.hand) e.2 ∙ call.in_hand) (ap (λ m. m.0.registrar) e.2 ∙ registrar.role) c.requires.call.call,
     )
 
 pub invariant_of-self : goal.invariant_of-self
@@ -44,6 +44,7 @@ invariant_of-self g c =
     let hand : Hand g.row.U.Denot = record { caller = call.caller; asked = call.asked } in
     let e = c.join_seat.ensures in
     let x = executed registrar call.place.me.0 c.join_seat.new.seat.me c.store.new.seat.me (Update call.caller call.asked.content) e.2 (c.store.ensures.2 hand (ap (λ m. m.0.hand) e.2 ∙ call.in_hand)) in
+    let m = entered_mirrors registrar call.place.me.0 c.store.new.seat.me (Update call.caller call.asked.content) x record { last = refl; warming = refl; free = λ _ p. p } in
     let k = x.knows in
     let id : c.store.new.seat.table_id ≡ registrar.place.table_id = c.store.ensures.0 ∙ e.0 in
     record {
@@ -52,6 +53,14 @@ invariant_of-self g c =
       told = k.plan ∙ registrar.told;
       role = k.registrar ∙ registrar.role;
       counted = x.places refl;
+      most = registrar.most;
+      few = registrar.few;
+      some = registrar.some;
+      last_is = m.last;
+      warming_are = m.warming;
+      crowd = registrar.crowd;
+      within = registrar.within;
+      unused = m.unused;
       empty_handed = k.hand;
       bare = x.bare;
     }

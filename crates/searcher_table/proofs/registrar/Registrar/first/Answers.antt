@@ -1,5 +1,5 @@
 use Rattle.std.proofs.Common.{refl}
-use Rattle.searcher_table.proofs.Opening.{opens, all_zero}
+use Rattle.searcher_table.proofs.Beginning.{opens, all_zero}
 use Rattle.searcher_table.proofs.registrar.Registrar.first.Goals as goal
 
 pub new-requires : goal.new-requires

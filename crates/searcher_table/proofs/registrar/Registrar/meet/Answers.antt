@@ -34,6 +34,21 @@ invariant_of-self-clause-counted g c =
     let l = c.load.ensures.2 in
     (has_seen c.args.self.now c.args.note.place.me.0 c.load.new.seat.me.0 c.join_seat.new.seat.me l.log c.join_seat.ensures.2 l.covers (ap (λ m. m.0.seen) l.after)).places
 
+pub invariant_of-self-clause-last_is : goal.invariant_of-self-clause-last_is
+invariant_of-self-clause-last_is g c =
+    let l = c.load.ensures.2 in
+    (has_seen c.args.self.now c.args.note.place.me.0 c.load.new.seat.me.0 c.join_seat.new.seat.me l.log c.join_seat.ensures.2 l.covers (ap (λ m. m.0.seen) l.after)).mirrors.last
+
+pub invariant_of-self-clause-warming_are : goal.invariant_of-self-clause-warming_are
+invariant_of-self-clause-warming_are g c =
+    let l = c.load.ensures.2 in
+    (has_seen c.args.self.now c.args.note.place.me.0 c.load.new.seat.me.0 c.join_seat.new.seat.me l.log c.join_seat.ensures.2 l.covers (ap (λ m. m.0.seen) l.after)).mirrors.warming
+
+pub invariant_of-self-clause-unused : goal.invariant_of-self-clause-unused
+invariant_of-self-clause-unused g c =
+    let l = c.load.ensures.2 in
+    (has_seen c.args.self.now c.args.note.place.me.0 c.load.new.seat.me.0 c.join_seat.new.seat.me l.log c.join_seat.ensures.2 l.covers (ap (λ m. m.0.seen) l.after)).mirrors.unused
+
 pub returns : goal.returns
 returns g c =
     let l = c.load.ensures.2 in

@@ -1,0 +1,24 @@
+-- Which generations are warming, and which slots are open for none.
+use Rattle.std.specs.Prelude.{◌≡◌, ℕ, ◌≤◌, List, length, None}
+use Rattle.registry_machine.specs.declared.entry.Entry.{Entry}
+use Rattle.registry_machine.specs.Legal.{state_of}
+use Rattle.searcher_table.specs.declared.board.Plan.{Plan}
+use Rattle.searcher_table.specs.declared.gens.Gens.{Gens}
+use Rattle.searcher_table.specs.Words.{limits}
+
+-- the generations that are listed
+abbrev pub listed : Gens → List ℕ
+listed g = g.list.items
+
+module _ {W U X L : Type 0} (p : Plan W) (seen : List (Entry U X L)) where
+  -- the generation that was opened last
+  abbrev pub last_in : ℕ
+  last_in = (state_of (limits p) seen).last_opened
+
+  -- those that are warming, in the order of their openings
+  abbrev pub warming_in : List ℕ
+  warming_in = (state_of (limits p) seen).warming
+
+  -- the slots behind those of the warming generations are open for none
+  abbrev pub AreUnused : Type 0
+  AreUnused = (slot : ℕ) → length warming_in ≤ slot → (state_of (limits p) seen).slots slot ≡ None
