@@ -15,10 +15,14 @@ pub got_here : {A : Type 0} (xs : List A) (a : A) → slice_get (xs ++ a ∷ [])
 got_here [] a = refl
 got_here (x ∷ xs) a = got_here xs a
 
-got_before : {A : Type 0} (xs ys : List A) (i : ℕ) (x : A) → slice_get xs i ≡ Some x → slice_get (xs ++ ys) i ≡ Some x
+pub got_before : {A : Type 0} (xs ys : List A) (i : ℕ) (x : A) → slice_get xs i ≡ Some x → slice_get (xs ++ ys) i ≡ Some x
 got_before [] ys i x e = let p : None ≡ Some x = e in absurd (cc)
 got_before (a ∷ xs) ys zero x e = e
 got_before (a ∷ xs) ys (suc i) x e = got_before xs ys i x e
+
+-- what holds of each and of the last holds of each
+pub each_and_last : {A : Type 0} (P : A → Type 0) (xs : List A) (a : A) → ((i : ℕ) (x : A) → slice_get xs i ≡ Some x → P x) → P a → (i : ℕ) (x : A) → slice_get (xs ++ a ∷ []) i ≡ Some x → P x
+each_and_last P xs a all last i x e = ⊎_elim (λ was. all i x was) (λ (it : (i ≡ length xs) × (a ≡ x)). subst P it.1 last) (got_last xs a x i e)
 
 module _ {D U W X L : Type 0} where
   -- the registrar stays what it was to a pass that was dealt

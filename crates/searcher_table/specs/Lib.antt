@@ -1,4 +1,5 @@
 pub mod Words
+pub mod Spares
 pub mod Warming
 pub mod Views
 pub mod Rule

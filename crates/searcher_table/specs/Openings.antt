@@ -7,10 +7,12 @@ use Rattle.searcher_table.specs.declared.shown.Shown.{Ghosts}
 use Rattle.searcher_table.specs.declared.registrar.Registrar.{Registrar}
 use Rattle.searcher_table.specs.declared.tokens.Announced.{Announced}
 use Rattle.searcher_table.specs.declared.tokens.Opening.{Opening}
+use Rattle.searcher_table.specs.declared.tokens.Sighting.{Sighting}
 use Rattle.searcher_table.specs.declared.tokens.OpenRefusal.{OpenRefusal}
 use Rattle.searcher_table.specs.declared.tokens.OpenRefusal.TheVariants.{TooMany as AsTooMany, GenerationsSpent as AsSpent}
 use Rattle.searcher_table.specs.Words.{last_generation}
 use Rattle.searcher_table.specs.Warming.{listed, last_in, warming_in}
+use Rattle.searcher_table.specs.Passes.{sighted, sighted_at}
 use Rattle.searcher_table.specs.Registrars.{table_of, plan_of, seen_of, places_of, HasEntry}
 
 module _ {D U W X L : Type 0} where
@@ -45,7 +47,7 @@ module _ {D U W X L : Type 0} {shows : Ghosts D W X L} where
     pub call : a.asked.call ≡ ToOpen
 
   -- the next generation was opened in some slot, and its entry carries the documents that the doors show
-  pub record HasOpened (docs : D → X) (s t : Registrar D U W X L) (a : Announced D U W X L shows) (doors : List D) (o : Opening D U W X L shows) : Type 0 where
+  pub record HasOpened (docs : D → X) (s t : Registrar D U W X L) (a : Announced D U W X L shows) (doors : List D) (o : Opening D U W X L) : Type 0 where
     pub slot : ℕ
     pub shown : X
     pub entry : HasEntry s t a (Open a.caller a.asked.content o.generation slot shown)
@@ -73,3 +75,17 @@ module _ {D U W X L : Type 0} {shows : Ghosts D W X L} where
   abbrev pub IsRefused : Registrar D U W X L → Registrar D U W X L → Announced D U W X L shows → OpenRefusal → Type 0
   IsRefused s t a (AsTooMany at gens) = IsTooMany s t a at (listed gens)
   IsRefused s t a (AsSpent at) = IsSpent s t a at
+
+module _ {D U W X L : Type 0} where
+  -- one opening, which has seen what it had seen
+  pub record IsSameOpening (o p : Opening D U W X L) : Type 0 where
+    pub generation : p.generation ≡ o.generation
+    pub place : p.at ≡ o.at
+    pub table : p.seat.table_id ≡ o.seat.table_id
+    pub seen : p.seat.me.0.seen ≡ o.seat.me.0.seen
+
+module _ {D U W X L : Type 0} {shows : Ghosts D W X L} where
+  -- the sighting carries what the opening has seen
+  pub record IsNoteOf (o : Opening D U W X L) (note : Sighting D U W X L shows) : Type 0 where
+    pub table : sighted_at note ≡ o.seat.table_id
+    pub seen : sighted note ≡ o.seat.me.0.seen

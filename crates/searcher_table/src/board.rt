@@ -161,3 +161,9 @@ pub(crate) type Table<D, U, W, X, L> = atomic_table::Table<
 pub(crate) type Place<D, U, W, X, L> = atomic_table::Seat<Cell<D, U>, Known<W, U, X, L>>;
 
 pub(crate) type SharedTable<D, U, W, X, L> = Arc<Table<D, U, W, X, L>, Global>;
+
+// A reference to a table, for an opening.
+#[derive(Drop)]
+pub(crate) struct Link<D: Shown, U: Drop> {
+    pub(crate) table: SharedTable<D, U, D::Setting, D::Docs, D::Deed>,
+}

@@ -2,7 +2,7 @@ ghost use Rattle.std.specs.Prelude.{◌≡◌, ◌≤◌, length, IfOk};
 ghost use Rattle.searcher_table.specs.Making.{setting_of, IsFor, AreDealt, IsOpening};
 
 use crate::NoMemory;
-use crate::board::{CELLS, Cell, Plan, Table, WORDS};
+use crate::board::{CELLS, Cell, Link, Plan, SharedTable, Table, WORDS};
 use crate::gens::Gens;
 use crate::pass::Pass;
 use crate::plays::Deal;
@@ -91,6 +91,30 @@ fn empty_cells<D: Shown, U: Drop>(alloc: Global, count: usize) -> Result<Vec<Cel
     Ok(cells)
 }
 
+ghost use Rattle.std.specs.Arc.{arc_value};
+ghost use Rattle.searcher_table.specs.Spares.{AreAt};
+
+// So many references to the table.
+fn links<D: Shown, U: Drop>(
+    alloc: Global,
+    table: &SharedTable<D, U, D::Setting, D::Docs, D::Deed>,
+    count: u32,
+) -> Result<Vec<Link<D, U>>, NoMemory>
+    ensures count { IfOk result (λ made. length made.items ≡ count) }
+    ensures table { IfOk result (λ made. AreAt (arc_value table.now).shared.table_id made.items) }
+{
+    let Ok(mut made) = Vec::with_capacity(alloc, count as usize) else {
+        return Err(NoMemory);
+    };
+    for _ in 0..count {
+        let Ok(table) = Arc::try_clone(table) else {
+            return Err(NoMemory);
+        };
+        made.push_reserved(Link { table });
+    }
+    Ok(made)
+}
+
 impl<D: Shown, U: Drop> Registrar<D, U> {
     ghost use Rattle.std.specs.Prelude.{◌≡◌, ◌+◌, ◌≤◌, IfOk};
     ghost use Rattle.searcher_table.specs.Registrars.{plan_of, table_of};
@@ -114,11 +138,13 @@ impl<D: Shown, U: Drop> Registrar<D, U> {
         let Ok(table) = Arc::new(alloc, table) else {
             return Err(NoMemory);
         };
+        let spare = links(alloc, &table, plan.max_warming)?;
         Ok(Registrar {
             places: 0,
             max_warming: plan.max_warming,
             last: plan.first_generation - 1,
             warming: Gens::none(),
+            spare,
             place,
             table,
         })

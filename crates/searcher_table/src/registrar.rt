@@ -1,9 +1,10 @@
-ghost use Rattle.std.specs.Prelude.{◌≡◌, ◌≤◌, true, [], Some, None, count_by, length};
+ghost use Rattle.std.specs.Prelude.{◌≡◌, ◌+◌, ◌≤◌, true, [], Some, None, count_by, length};
 ghost use Rattle.std.specs.Arc.{arc_value};
 ghost use Rattle.registry_machine.specs.Entries.{has_place};
+ghost use Rattle.searcher_table.specs.Spares.{AreAt};
 ghost use Rattle.searcher_table.specs.Warming.{listed, last_in, warming_in, AreUnused};
 
-use crate::board::{CALLS, Cell, LAST_GENERATION, Place, REGISTRAR, SharedTable};
+use crate::board::{CALLS, Cell, LAST_GENERATION, Link, Place, REGISTRAR, SharedTable};
 use crate::gens::Gens;
 use crate::pass::Pass;
 use crate::plays::{
@@ -25,6 +26,8 @@ pub struct Registrar<D: Shown, U: Drop> {
     pub(crate) warming: Gens,
     pub(crate) place: Place<D, U, D::Setting, D::Docs, D::Deed>,
     pub(crate) table: SharedTable<D, U, D::Setting, D::Docs, D::Deed>,
+    // References to the table for the openings that may be warming at once.
+    pub(crate) spare: Vec<Link<D, U>>,
     ghost at_table: { place.table_id ≡ (arc_value table).shared.table_id },
     ghost sized: { place.table_id.words ≡ 1168 },
     ghost told: { place.me.0.plan ≡ Some (arc_value table).shared.key },
@@ -35,7 +38,8 @@ pub struct Registrar<D: Shown, U: Drop> {
     ghost some: { 1 ≤ (arc_value table).shared.key.callers },
     ghost last_is: { last ≡ last_in (arc_value table).shared.key place.me.0.seen },
     ghost warming_are: { listed warming ≡ warming_in (arc_value table).shared.key place.me.0.seen },
-    ghost crowd: { length (listed warming) ≤ max_warming },
+    ghost spares: { AreAt place.table_id spare.items },
+    ghost enough: { length spare.items + length (listed warming) ≡ max_warming },
     ghost within: { last ≤ 33554431 },
     ghost unused: { AreUnused (arc_value table).shared.key place.me.0.seen },
     ghost empty_handed: { place.me.0.hand ≡ None },
@@ -167,6 +171,9 @@ impl<D: Shown, U: Drop> Registrar<D, U> {
         let Some(door) = doors.pop() else {
             unreachable!()
         };
+        let Some(link) = self.spare.pop() else {
+            unreachable!()
+        };
         let Announced {
             caller,
             asked: _asked,
@@ -186,6 +193,7 @@ impl<D: Shown, U: Drop> Registrar<D, U> {
             generation: self.last,
             at,
             seat,
+            link,
         }
     }
 

@@ -186,7 +186,10 @@ fn open(
 {
     let call = pass.announce(Call::Open, 0);
     match registrar.execute_open(call, doors) {
-        Ok(opening) => Ok((opening.generation(), opening.place())),
+        Ok(mut opening) => {
+            pass.meet(opening.note());
+            Ok((opening.generation(), opening.place()))
+        }
         Err((refusal, _doors)) => Err(refusal),
     }
 }

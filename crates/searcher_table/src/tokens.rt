@@ -1,7 +1,9 @@
 ghost use Rattle.std.specs.Prelude.{◌≡◌, ◌≤◌, [], Some, None};
+ghost use Rattle.std.specs.Arc.{arc_value};
 
-use crate::board::{Asked, Place};
+use crate::board::{Asked, Link, Place};
 use crate::gens::Gens;
+use crate::plays::HandOut;
 use crate::shown::Shown;
 
 /// A call that its caller announced. It has to be executed or withdrawn.
@@ -28,12 +30,17 @@ pub struct Opening<D: Shown, U: Drop> {
     // The place of its entry.
     pub(crate) at: u64,
     pub(crate) seat: Place<D, U, D::Setting, D::Docs, D::Deed>,
+    // One of the registrar's spare references to the table.
+    pub(crate) link: Link<D, U>,
+    ghost at_table: { seat.table_id ≡ (arc_value link.table).shared.table_id },
+    ghost sized: { seat.table_id.words ≡ 1168 },
     ghost empty_handed: { seat.me.0.hand ≡ None },
     ghost bare: { seat.me.1 ≡ [] },
 }
 
 impl<D: Shown, U: Drop> Opening<D, U> {
     ghost use Rattle.std.specs.Prelude.{◌≡◌};
+    ghost use Rattle.searcher_table.specs.Openings.{IsSameOpening, IsNoteOf};
 
     /// The generation that was opened.
     pub fn generation(&self) -> u32
@@ -47,6 +54,15 @@ impl<D: Shown, U: Drop> Opening<D, U> {
         ensures { result ≡ self.now.at }
     {
         self.at
+    }
+
+    /// What the opening has seen, its own entry included, for a pass to meet. It takes no memory and doesn't wait.
+    pub fn note(&mut self) -> Sighting<D, U>
+        ensures opening { IsSameOpening self.old self.new }
+        ensures note { IsNoteOf self.new result }
+    {
+        let place = self.link.table.shared.split_seat::<HandOut>(&mut self.seat);
+        Sighting { place }
     }
 }
 

@@ -7,7 +7,7 @@ refuse_too_many-place-requires-clause-full g c =
     let registrar = c.args.self.now in
     let w = ap length registrar.warming_are in
     let t = registrar.most in
-    let most = registrar.crowd in
+    let most = registrar.enough in
     let got = ap length c.get.ensures in
     let full = c.if-get-self.true in
     omega arith

@@ -1,7 +1,8 @@
-use Rattle.std.proofs.Common.{◌≡◌, ◌+◌, ◌*◌, ◌∙◌, refl, sym, ap, arith}
+use Rattle.std.proofs.Common.{◌≡◌, ◌+◌, ◌*◌, ◌∙◌, refl, sym, ap, subst, arith}
 use Rattle.searcher_table.specs.declared.board.Hand.{Hand}
 use Rattle.registry_machine.specs.declared.entry.Entry.TheVariants.{Update}
 use Rattle.searcher_table.proofs.Registering.{executed, entered_mirrors}
+use Rattle.searcher_table.specs.Spares.{AreAt}
 use Rattle.searcher_table.proofs.Gather.{joins}
 use Rattle.searcher_table.proofs.Execute.{updates}
 use Rattle.searcher_table.proofs.registrar.Registrar.execute_update.Goals as goal
@@ -58,7 +59,8 @@ invariant_of-self g c =
       some = registrar.some;
       last_is = m.last;
       warming_are = m.warming;
-      crowd = registrar.crowd;
+      spares = subst (λ z. AreAt z registrar.spare.items) (sym id) registrar.spares;
+      enough = registrar.enough;
       within = registrar.within;
       unused = m.unused;
       empty_handed = k.hand;

@@ -1,6 +1,15 @@
-use Rattle.std.proofs.Common.{refl}
+use Rattle.std.proofs.Common.{◌≡◌, ◌∙◌, sym, ap, subst, refl}
+use Rattle.std.specs.Arc.{arc_value}
+use Rattle.searcher_table.specs.Spares.{AreAt}
 use Rattle.searcher_table.proofs.Beginning.{opens, all_zero}
 use Rattle.searcher_table.proofs.registrar.Registrar.first.Goals as goal
 
 pub new-requires : goal.new-requires
 new-requires g c = opens c.args.plan.now _ c.in_ok-cells.cells.items refl (all_zero 1168)
+
+pub invariant_of-result-clause-spares : goal.invariant_of-result-clause-spares
+invariant_of-result-clause-spares g c =
+    let h = c.in-Ok.ensures.ok in
+    let k = c.in-Ok-new.ensures.ok in
+    let at : c.in-Ok.place.table_id ≡ (arc_value c.in-Ok-new.table).shared.table_id = h.2 ∙ ap (λ t. t.shared.table_id) (sym k) in
+    subst (λ z. AreAt z c.in_ok-spare.spare.items) (sym at) c.in_ok-spare.ensures.table

@@ -1,5 +1,6 @@
-use Rattle.std.proofs.Common.{◌≡◌, ◌∙◌, refl, sym, ap, arith}
+use Rattle.std.proofs.Common.{◌≡◌, ◌∙◌, refl, sym, ap, subst, arith}
 use Rattle.searcher_table.proofs.Registering.{has_seen}
+use Rattle.searcher_table.specs.Spares.{AreAt}
 use Rattle.searcher_table.proofs.Gather.{joins}
 use Rattle.searcher_table.proofs.Look.{looks}
 use Rattle.searcher_table.proofs.registrar.Registrar.meet.Goals as goal
@@ -48,6 +49,9 @@ pub invariant_of-self-clause-unused : goal.invariant_of-self-clause-unused
 invariant_of-self-clause-unused g c =
     let l = c.load.ensures.2 in
     (has_seen c.args.self.now c.args.note.place.me.0 c.load.new.seat.me.0 c.join_seat.new.seat.me l.log c.join_seat.ensures.2 l.covers (ap (λ m. m.0.seen) l.after)).mirrors.unused
+
+pub invariant_of-self-clause-spares : goal.invariant_of-self-clause-spares
+invariant_of-self-clause-spares g c = subst (λ z. AreAt z c.args.self.now.spare.items) (sym (c.load.ensures.0 ∙ c.join_seat.ensures.0)) c.args.self.now.spares
 
 pub returns : goal.returns
 returns g c =

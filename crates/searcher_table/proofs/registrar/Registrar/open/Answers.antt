@@ -11,6 +11,9 @@ use Rattle.searcher_table.specs.Warming.{listed, last_in, warming_in, AreUnused}
 use Rattle.searcher_table.specs.Steps.{opening_of, HasExecuted}
 use Rattle.searcher_table.specs.Registrars.{plan_of, seen_of}
 use Rattle.searcher_table.proofs.Frame.{all_map, all_last}
+use Rattle.std.specs.Prelude.{slice_get}
+use Rattle.searcher_table.specs.Spares.{AreAt}
+use Rattle.searcher_table.proofs.Row.{got_here, got_before}
 use Rattle.searcher_table.proofs.Gather.{joins}
 use Rattle.searcher_table.proofs.HandOut.{splits}
 use Rattle.searcher_table.proofs.Open.{opens_next}
@@ -92,12 +95,13 @@ invariant_of-self g c =
       some = registrar.some;
       last_is = m.last ∙ ap (λ z. last_in (plan_of registrar) z.0.seen) (sym e2.2);
       warming_are = c.add.ensures ∙ m.warming ∙ ap (λ z. warming_in (plan_of registrar) z.0.seen) (sym e2.2);
-      crowd =
+      spares = subst (λ z. AreAt z c.pop-2.new.self.items) (sym id) (λ i l at. registrar.spares i l (ap (λ ls. slice_get ls i) c.in-Some-pop.ensures.items ∙ got_before c.pop-2.new.self.items (c.in-Some-pop.link ∷ []) i l at));
+      enough =
           let a = ap length c.add.ensures in
           let b = length-append (listed registrar.warming) ((registrar.last + 1) ∷ []) in
-          let w = ap length registrar.warming_are in
-          let t = registrar.most in
-          let room = c.requires.may.room in
+          let n = ap length c.in-Some-pop.ensures.items in
+          let m = length-append c.pop-2.new.self.items (c.in-Some-pop.link ∷ []) in
+          let k = registrar.enough in
           omega arith;
       within = (let l = c.requires.may.left in let i = registrar.last_is in omega arith);
       unused = subst (λ z. AreUnused (plan_of registrar) z.0.seen) (sym e2.2) m.unused;
@@ -121,6 +125,8 @@ invariant_of-result g c =
     let e2 = c.split_seat-seat.ensures in
     let id : c.split_seat-seat.new.seat.table_id ≡ registrar.place.table_id = e2.0 ∙ c.compare_exchange_with.ensures.0 ∙ e.0 in
     record {
+      at_table = e2.3 ∙ c.compare_exchange_with.ensures.0 ∙ e.0 ∙ sym (registrar.spares (length c.pop-2.new.self.items) c.in-Some-pop.link (ap (λ ls. slice_get ls (length c.pop-2.new.self.items)) c.in-Some-pop.ensures.items ∙ got_here c.pop-2.new.self.items c.in-Some-pop.link));
+      sized = ap (λ z. z.words) (e2.3 ∙ c.compare_exchange_with.ensures.0 ∙ e.0) ∙ registrar.sized;
       empty_handed = ap (λ m. m.0.hand) e2.4 ∙ k.hand;
       bare = ap (λ m. m.1) e2.4;
     }

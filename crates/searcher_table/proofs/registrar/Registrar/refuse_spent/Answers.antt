@@ -6,6 +6,7 @@ use Rattle.searcher_table.specs.declared.board.Hand.{Hand}
 use Rattle.searcher_table.specs.Words.{last_generation}
 use Rattle.searcher_table.specs.Warming.{last_in, warming_in}
 use Rattle.searcher_table.specs.Registrars.{plan_of, seen_of}
+use Rattle.searcher_table.specs.Spares.{AreAt}
 use Rattle.searcher_table.proofs.Gather.{joins}
 use Rattle.searcher_table.proofs.Open.{refuses_spent}
 use Rattle.searcher_table.proofs.Registering.{executed, entered_mirrors}
@@ -68,7 +69,8 @@ invariant_of-self g c =
       some = registrar.some;
       last_is = m.last;
       warming_are = m.warming;
-      crowd = registrar.crowd;
+      spares = subst (λ z. AreAt z registrar.spare.items) (sym id) registrar.spares;
+      enough = registrar.enough;
       within = registrar.within;
       unused = m.unused;
       empty_handed = k.hand;
