@@ -149,6 +149,8 @@ fn all_of<R: Threads + Sync>(rt: &R, alloc: Global) -> Option<([u64; 2], u32, u3
     let (second, _) = update(&mut two, &mut registrar, 9);
     let (right, mut two, mut registrar) = at_once(rt, one, two, registrar);
     let (last, _) = update(&mut two, &mut registrar, 10);
+    registrar.meet(two.note());
+    registrar.take_back(two);
     Some(([first, second], back, right, last))
 }
 
