@@ -1,5 +1,5 @@
 -- What contracts say of openings, and of those that are refused.
-use Rattle.std.specs.Prelude.{◌≡◌, ℕ, ◌<◌, List, [], length}
+use Rattle.std.specs.Prelude.{◌≡◌, ℕ, ◌+◌, ◌<◌, List, [], length}
 use Rattle.std.specs.List.{AllByRecursion}
 use Rattle.registry_machine.specs.declared.entry.Entry.TheVariants.{Open, TooMany, GenerationsSpent}
 use Rattle.searcher_table.specs.declared.board.Call.TheVariants.{Open as ToOpen}
@@ -52,6 +52,7 @@ module _ {D U W X L : Type 0} {shows : Ghosts D W X L} where
     pub shown : X
     pub entry : HasEntry s t a (Open a.caller a.asked.content o.generation slot shown)
     pub doors_show : AllByRecursion (λ d. docs d ≡ shown) doors
+    pub generation : o.generation ≡ last_of s + 1
     pub place : o.at ≡ places_of s
     pub may : MayOpen s
     pub seen : o.seat.me.0.seen ≡ seen_of t

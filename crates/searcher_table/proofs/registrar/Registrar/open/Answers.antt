@@ -164,6 +164,7 @@ returns g c =
           let same = c.requires.doors.same in
           let last : shown ≡ same.0 = all_last (λ d. g.D.Shown.docs d ≡ same.0) rest c.in-Some.door (subst (λ ds. AllByRecursion (λ d. g.D.Shown.docs d ≡ same.0) ds) c.in-Some.ensures.items same.1) in
           all_map (λ d. g.D.Shown.docs d ≡ same.0) (λ d. g.D.Shown.docs d ≡ shown) (λ d is. is ∙ sym last) c.args.doors.items same.1;
+      generation = ap (λ n. n + 1) registrar.last_is;
       place = registrar.counted;
       may = c.requires.may;
       seen = ap (λ m. m.0.seen) e2.4 ∙ sym (ap (λ m. m.0.seen) e2.2);
