@@ -1,5 +1,5 @@
 -- The laws of the order.
-use Rattle.std.proofs.Common.{◌≡◌, ◌≢◌, ℕ, true, false, ◌||◌, List, [], ◌∷◌, ◌++◌, fold, refl, sym, ap, ◌∙◌, nat_eq}
+use Rattle.std.proofs.Common.{◌≡◌, ◌≢◌, ℕ, true, false, ◌||◌, List, [], ◌∷◌, refl, sym, ap, ◌∙◌, nat_eq}
 use Rattle.std.specs.Ordering.{nat_cmp, is_lt, ordering_reverse}
 use Rattle.std.specs.declared.cmp.Ordering.{Ordering}
 use Rattle.std.specs.declared.cmp.Ordering.TheVariants.{Less, Equal, Greater}
@@ -8,13 +8,12 @@ use Rattle.std.specs.List.{AllByRecursion, IsDistinct}
 use Rattle.std.specs.List.Sorted.{IsStrictlySortedBy}
 use mathlib.Core.Bool.{true≢false}
 use Rattle.std.proofs.lemmas.Bool.{eq-eqb}
-use Rattle.std.proofs.lemmas.List.{append_assoc}
 use Rattle.std.proofs.lemmas.Map.Keys.{IsDistinct-IsPermutation}
 use Rattle.std.proofs.lemmas.List.Sorted.{ranks_by, IsPermutation-map}
 use Rattle.query_tree.specs.declared.sort.SortKey.{SortKey}
-use Rattle.sort_order.specs.Order.{Entry, doc_cmp, comes_before, placed, in_order}
+use Rattle.sort_order.specs.Order.{Entry, doc_cmp, comes_before, in_order}
 use Rattle.sort_order.specs.Laws.{NoneBeforeItself, BeforeChains, OneComesBefore, KeepsDocuments, Ascends, IndexOrderStays, numbers}
-use Rattle.sort_order.proofs.Placing.{NoneBefore, Rising, sorted-same, rising-sorted, placed_last}
+use Rattle.sort_order.proofs.Placing.{NoneBefore, Rising, sorted-same, rising-sorted, sorted-rising}
 use Rattle.sort_order.proofs.Standing.{doc_cmp_total, tied_number}
 
 less : (r : Ordering) → is_lt r ≡ true → r ≡ Less
@@ -80,21 +79,14 @@ ascends sort docs other =
 
 -- ---- by no key
 
-behind : (e f : Entry) → nat_cmp e.0 f.0 ≡ Less → (done : List Entry) → AllByRecursion (λ d. comes_before [] e d ≡ false) done
-    → AllByRecursion (λ d. comes_before [] f d ≡ false) (done ++ e ∷ [])
-behind e f up [] h = ((before_order []).one_way e f (ap is_lt up), tt)
-behind e f up (d ∷ ds) h =
-    ((before_order []).chain f e d ((before_order []).one_way e f (ap is_lt up)) h.0, behind e f up ds h.1)
+none_before-index : (e : Entry) (es : List Entry) → AllByRecursion (λ n. nat_cmp e.0 n ≡ Less) (numbers es) → NoneBefore (comes_before []) e es
+none_before-index e [] h = tt
+none_before-index e (f ∷ fs) h = ((before_order []).one_way e f (ap is_lt h.0), none_before-index e fs h.1)
 
-stays : (done : List Entry) (e : Entry) (es : List Entry) → AllByRecursion (λ d. comes_before [] e d ≡ false) done
-    → IsStrictlySortedBy nat_cmp (numbers (e ∷ es)) → fold (placed (comes_before [])) done (e ∷ es) ≡ done ++ e ∷ es
+rising-index : (es : List Entry) → IsStrictlySortedBy nat_cmp (numbers es) → Rising (comes_before []) es
 unfolding IsStrictlySortedBy
-stays done e [] h up = placed_last (comes_before []) done e h
-stays done e (f ∷ es) h up =
-    ap (λ ds. fold (placed (comes_before [])) ds (f ∷ es)) (placed_last (comes_before []) done e h)
-    ∙ stays (done ++ e ∷ []) f es (behind e f up.0.0 done h) up.1
-    ∙ append_assoc done (e ∷ []) (f ∷ es)
+rising-index [] up = tt
+rising-index (e ∷ es) up = (none_before-index e es up.0, rising-index es up.1)
 
 pub index_order_stays : IndexOrderStays
-index_order_stays [] up = refl
-index_order_stays (e ∷ es) up = stays [] e es tt up
+index_order_stays docs up = sorted-rising (comes_before []) docs (rising-index docs up)
