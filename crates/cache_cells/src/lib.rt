@@ -9,6 +9,3 @@ mod value;
 pub use cells::Cells;
 pub use store::Store;
 pub use value::Value;
-
-#[cfg(test)]
-mod tests;

@@ -7,6 +7,7 @@ use Rattle.serde_json.specs.View.{view, items_of, items_view}
 use Rattle.serde_json.specs.declared.value.Value.{Value, Array}
 use Rattle.serde_json.proofs.Views.{view-Array}
 use Rattle.field_schema.specs.ReadSchema.{listed}
+use Rattle.field_schema.proofs.Shapes.{listed-items_of}
 use Rattle.field_schema.specs.declared.field.FieldType.{FieldType}
 use Rattle.field_schema.specs.declared.key.Key.{Key}
 use Rattle.doc_model.specs.ReadDoc.{scalar_values, list_values, member_values, is_null}
@@ -33,10 +34,6 @@ list_values_fail t whole values d ds h s = h ∙ rw s refl
 
 pub list_values_end : (t : FieldType) (whole : Option (List Key)) (values : List Key) → whole ≡ onto values (list_values t []) → whole ≡ Some values
 list_values_end t whole values h = h ∙ ap Some (append-nil values)
-
-pub listed-items_of : (ds : List Data) → listed (items_of ds) ≡ ds
-listed-items_of [] = refl
-listed-items_of (d ∷ ds) = ap (λ es. d ∷ es) (listed-items_of ds)
 
 pub is_null_same : (d : Data) → is_some (as_null d) ≡ is_null d
 is_null_same null = refl

@@ -5,8 +5,6 @@ mod doc;
 mod json;
 pub mod laws;
 mod object;
-#[cfg(test)]
-mod tests;
 mod value;
 
 pub use doc::{Doc, DocFault, Docs};

@@ -172,15 +172,12 @@ impl DocSet {
             Form::Bits(words) => DocSetIter::along_row(words),
         }
     }
-}
 
-#[cfg(test)]
-impl DocSet {
-    // How many bytes the members take, and whether they are kept as bits.
-    pub(crate) fn form(&self) -> (usize, bool) {
+    /// How many bytes of the heap the members take: four for each in a list, or a bit for each number up to the greatest one.
+    pub fn ram_bytes_used(&self) -> usize {
         match &self.form {
-            Form::Listed(numbers) => (numbers.capacity().saturating_mul(4), false),
-            Form::Bits(words) => (words.capacity().saturating_mul(8), true),
+            Form::Listed(numbers) => numbers.capacity().saturating_mul(4),
+            Form::Bits(words) => words.capacity().saturating_mul(8),
         }
     }
 }

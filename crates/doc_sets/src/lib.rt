@@ -11,8 +11,6 @@ mod bit_rows;
 mod doc_list;
 mod doc_set;
 mod listed;
-#[cfg(test)]
-mod tests;
 mod walk;
 
 pub use doc_list::DocList;

@@ -5,6 +5,3 @@ mod doc_cells;
 mod kept;
 
 pub use doc_cells::DocCells;
-
-#[cfg(test)]
-mod tests;

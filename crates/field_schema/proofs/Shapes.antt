@@ -9,7 +9,8 @@ use Rattle.serde_json.specs.View.{view, items_of}
 use Rattle.serde_json.specs.declared.value.Value.{Value}
 use Rattle.field_schema.specs.ReadSchema.{listed, has_shape, field_data, is_shaped}
 
-listed-items_of : (ds : List Data) → listed (items_of ds) ≡ ds
+-- the values of a JSON list, as a list
+pub listed-items_of : (ds : List Data) → listed (items_of ds) ≡ ds
 listed-items_of [] = refl
 listed-items_of (d ∷ ds) = ap (λ es. d ∷ es) (listed-items_of ds)
 

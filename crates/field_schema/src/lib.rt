@@ -28,6 +28,3 @@ pub use schema::{Schema, SchemaFault};
 pub use text::{Text, Texts};
 pub use token::tokens;
 pub use value_text::{begins_true, long_text, truth_text};
-
-#[cfg(test)]
-mod tests;

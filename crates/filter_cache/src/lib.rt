@@ -6,6 +6,3 @@ mod filter;
 mod filter_cells;
 
 pub use filter_cells::{FilterCells, FilterLook};
-
-#[cfg(test)]
-mod tests;

@@ -7,6 +7,3 @@ mod sort;
 
 pub use query::{End, Queries, Query};
 pub use sort::{Sort, SortBy, SortKey};
-
-#[cfg(test)]
-mod tests;

@@ -23,6 +23,3 @@ pub use delete::DeleteForm;
 pub use fault::RequestFault;
 pub use params::has_param;
 pub use request::{Defaults, Filter, Filters, Request};
-
-#[cfg(test)]
-mod tests;

@@ -10,6 +10,3 @@ mod result_cells;
 pub use entry::Entry;
 pub use key::ResultKey;
 pub use result_cells::{ResultCells, ResultLook};
-
-#[cfg(test)]
-mod tests;

@@ -22,6 +22,3 @@ pub use streams::{Reading, StdSink, StdSource, Writing};
 /// Memory was wanting.
 #[derive(Clone, Copy, Debug, PartialEq, Eq)]
 pub struct NoMemory;
-
-#[cfg(test)]
-mod tests;

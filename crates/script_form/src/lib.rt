@@ -13,8 +13,6 @@ mod lines;
 mod member;
 mod request;
 mod script;
-#[cfg(test)]
-mod tests;
 
 pub use config::{Config, ConfigFault, ConfigRefusal, Requests, WarmSetting, read_config};
 pub use lines::too_large;

@@ -14,5 +14,4 @@ pub mod Registering
 pub mod Beginning
 pub mod Deal
 pub mod Row
-pub mod Chain
 pub mod TakeBack

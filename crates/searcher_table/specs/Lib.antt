@@ -8,4 +8,3 @@ pub mod Passes
 pub mod Registrars
 pub mod Openings
 pub mod Making
-pub mod Trials

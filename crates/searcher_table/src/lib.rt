@@ -25,6 +25,3 @@ pub use tokens::{Announced, OpenRefusal, Opening, Sighting};
 /// Memory was wanting.
 #[derive(Clone, Copy, Debug, PartialEq, Eq)]
 pub struct NoMemory;
-
-#[cfg(test)]
-mod tests;

@@ -15,6 +15,3 @@ pub use posting::{Counts, Places, Posting};
 pub use probe::Probe;
 pub use reads::Reads;
 pub use view::View;
-
-#[cfg(test)]
-mod tests;

@@ -7,6 +7,3 @@ mod pending;
 mod search;
 
 pub use index::Index;
-
-#[cfg(test)]
-mod tests;

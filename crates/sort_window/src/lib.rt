@@ -10,6 +10,3 @@ mod windows;
 
 pub use first::first_n;
 pub use windows::window;
-
-#[cfg(test)]
-mod tests;

@@ -7,4 +7,3 @@ pub mod Gather
 pub mod Opening
 pub mod Making
 pub mod Closing
-pub mod Trials

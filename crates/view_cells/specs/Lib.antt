@@ -5,5 +5,4 @@ pub mod Seats
 pub mod Helds
 pub mod Making
 pub mod Closing
-pub mod Trials
 pub mod Lending

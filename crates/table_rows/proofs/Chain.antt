@@ -1,0 +1,110 @@
+-- A caller that announces an update, has it executed and meets the registrar has just this entry more.
+use Rattle.std.proofs.Common.{true, ◌≡◌, ℕ, List, [], ◌∷◌, ◌++◌, length, length-append, append-nil, append_assoc, count_by, refl, sym, ap, ◌∙◌, ⊎_elim, arith, None}
+use Rattle.std.proofs.lemmas.List.{append_cancel_left}
+use Rattle.registry_machine.specs.declared.entry.Entry.{Entry}
+use Rattle.registry_machine.specs.declared.entry.Entry.TheVariants.{TooMany, GenerationsSpent, Update}
+use Rattle.registry_machine.specs.Entries.{has_place}
+use Rattle.registry_machine.specs.Callers.{mine}
+use Rattle.searcher_table.specs.declared.board.Call.TheVariants.{Update as ToUpdate}
+use Rattle.searcher_table.specs.declared.shown.Shown.{Ghosts}
+use Rattle.searcher_table.specs.declared.pass.Pass.{Pass}
+use Rattle.searcher_table.specs.declared.registrar.Registrar.{Registrar}
+use Rattle.searcher_table.specs.declared.tokens.Announced.{Announced}
+use Rattle.searcher_table.specs.declared.tokens.Sighting.{Sighting}
+use Rattle.searcher_table.specs.declared.tokens.OpenRefusal.{OpenRefusal}
+use Rattle.searcher_table.specs.declared.tokens.OpenRefusal.TheVariants.{TooMany as AsTooMany, GenerationsSpent as AsSpent}
+use Rattle.searcher_table.specs.Warming.{listed}
+use Rattle.searcher_table.specs.Openings.{IsRefused}
+use Rattle.searcher_table.specs.Views.{IsStill, WasExecuted}
+use Rattle.searcher_table.specs.Passes.{seen_of, mine_of, announced_of, sighted, HasSeenMore, HasLooked, HasAnnounced, HasMet, IsAnnouncedBy}
+use Rattle.searcher_table.specs.Registrars.{seen_of as seen_by, IsUnchanged, IsSightingOf, HasEntry, HasUpdated}
+use Rattle.table_rows.specs.TableTrials.{HasOneMore, HasOneCallMore}
+use Rattle.searcher_table.proofs.Frame.{own_joined}
+use Rattle.searcher_table.proofs.Passing.{nothing_more}
+use Rattle.searcher_table.proofs.Places.{same_places, one_place_more}
+use Rattle.searcher_table.proofs.Execute.{own_entry}
+
+module _ {A : Type 0} where
+  -- an element of a list of one
+  lone : (xs ys : List A) (x y : A) → xs ++ x ∷ ys ≡ y ∷ [] → x ≡ y
+  lone [] ys x y e = let p : x ∷ ys ≡ y ∷ [] = e in cc
+  lone (z ∷ zs) ys x y e = let n = ap length e in let m = length-append zs (x ∷ ys) in absurd (omega arith)
+
+  never_empty : (xs ys : List A) (x : A) → xs ++ x ∷ ys ≡ [] → ⊥
+  never_empty xs ys x e = let n = ap length e in let m = length-append xs (x ∷ ys) in omega arith
+
+module _ {D U W X L : Type 0} where
+  -- a step that sees no entry of the caller leaves its own entries
+  pub same_own : (s t : Pass D U W X L) → HasSeenMore s t [] → mine_of t ≡ mine_of s
+  same_own s t m =
+      t.own ∙ (λ i. mine (m.pass.caller i) (m.prolongs.joined i)) ∙ own_joined s.caller (seen_of s) m.prolongs.more
+      ∙ ap (λ es. mine s.caller (seen_of s) ++ es) m.prolongs.own ∙ append-nil (mine s.caller (seen_of s)) ∙ sym s.own
+
+  -- where nothing is announced, a look finds nothing announced
+  pub none_still : (s t : Pass D U W X L) → HasLooked s t → announced_of s ≡ None → announced_of t ≡ None
+  none_still s t l none = ⊎_elim
+      (λ (x : IsStill s.caller (mine_of s) (announced_of s) (mine_of t) (announced_of t)). x.announced ∙ none)
+      (λ (x : WasExecuted s.caller (mine_of s) (announced_of s) (mine_of t) (announced_of t)). x.none)
+      l.calls
+
+module _ {D U W X L : Type 0} {shows : Ghosts D W X L} where
+  pub grown : (s t : Pass D U W X L) (a : Announced D U W X L shows) (r q : Registrar D U W X L) (note : Sighting D U W X L shows)
+      → a.caller ≡ s.caller → a.place.me.0.seen ≡ seen_of s → HasUpdated r q a → sighted note ≡ seen_by q → HasMet s t note
+      → (mine_of t ≡ mine_of s ++ Update a.caller a.asked.content ∷ []) × (announced_of t ≡ None)
+  grown s t a r q note by from up told met =
+      let c : ℕ = s.caller in
+      let e : Entry U X L = Update a.caller a.asked.content in
+      let k : List (Entry U X L) = up.covers.0 in
+      let rest : List (Entry U X L) = met.covers.0 in
+      let before : List (Entry U X L) = seen_of s ++ k in
+      let begins : up.before ≡ before = up.covers.1 ∙ ap (λ l. l ++ k) from in
+      let whole : seen_of t ≡ (before ++ e ∷ []) ++ rest = met.covers.1 ∙ ap (λ l. l ++ rest) (told ∙ up.entry ∙ ap (λ l. l ++ e ∷ []) begins) in
+      let more : List (Entry U X L) = mine c k ++ e ∷ mine c rest in
+      let is : mine_of t ≡ mine_of s ++ more =
+      t.own ∙ (λ i. mine (met.looked.more.pass.caller i) (whole i)) ∙ own_joined c (before ++ e ∷ []) rest
+      ∙ ap (λ l. l ++ mine c rest) (own_entry a.caller c before e refl (sym by) ∙ ap (λ l. l ++ e ∷ []) (own_joined c (seen_of s) k ∙ ap (λ l. l ++ mine c k) (sym s.own)))
+      ∙ append_assoc (mine_of s ++ mine c k) (e ∷ []) (mine c rest) ∙ append_assoc (mine_of s) (mine c k) (e ∷ mine c rest) in
+      ⊎_elim
+      (λ (x : IsStill c (mine_of s) (announced_of s) (mine_of t) (announced_of t)).
+      absurd (never_empty (mine c k) (mine c rest) e (nothing_more (mine_of s) more (sym is ∙ x.mine))))
+      (λ (x : WasExecuted c (mine_of s) (announced_of s) (mine_of t) (announced_of t)).
+      let same : e ≡ x.entry = lone (mine c k) (mine c rest) e x.entry (append_cancel_left (mine_of s) more (x.entry ∷ []) (sym is ∙ x.mine)) in
+      (x.mine ∙ ap (λ y. mine_of s ++ y ∷ []) (sym same), x.none))
+      met.looked.calls
+
+  pub one_more : (s m t : Pass D U W X L) (u : U) (a : Announced D U W X L shows) (r q v : Registrar D U W X L) (note : Sighting D U W X L shows)
+      → HasAnnounced s m (record { call = ToUpdate; content = u }) → IsAnnouncedBy m (record { call = ToUpdate; content = u }) a → HasUpdated r q a → IsUnchanged q v → IsSightingOf v note → HasMet m t note
+      → a.place.table_id ≡ r.place.table_id → HasOneMore s t r v u
+  one_more s m t u a r q v note said by up same told met here =
+      let g = grown m t a r q note by.caller by.seen up (told.seen ∙ same.seen) met in
+      let caller : a.caller ≡ s.caller = by.caller ∙ said.more.pass.caller in
+      let first = said.more.pass in
+      let last = met.looked.more.pass in
+      record {
+        pass = record { table = last.table ∙ first.table; plan = last.plan ∙ first.plan; caller = last.caller ∙ first.caller };
+        registrar = record { table = same.registrar.table ∙ up.registrar.table; plan = same.registrar.plan ∙ up.registrar.plan };
+        ready = record { table = last.table ∙ sym by.table ∙ here ∙ sym (same.registrar.table ∙ up.registrar.table); none = g.1 };
+        places =
+            let i = ap (count_by has_place) same.seen in
+            let j = ap (count_by has_place) up.entry in
+            let k = one_place_more up.before (Update a.caller a.asked.content) refl in
+            let l = same_places up.before (seen_by r) up.seen in
+            omega arith;
+        mine = g.0 ∙ (λ i. same_own s m said.more i ++ Update (caller i) (by.asked i).content ∷ []);
+      }
+
+  -- an entry with a place is one call more
+  pub one_call_more : (r q : Registrar D U W X L) (a : Announced D U W X L shows) (e : Entry U X L) → HasEntry r q a e → has_place e ≡ true → HasOneCallMore r q
+  one_call_more r q a e up has = record {
+    registrar = up.registrar;
+    places =
+        let j = ap (count_by has_place) up.entry in
+        let k = one_place_more up.before e has in
+        let l = same_places up.before (seen_by r) up.seen in
+        omega arith;
+  }
+
+  -- and so is a refusal
+  pub refused_counts : (r q : Registrar D U W X L) (a : Announced D U W X L shows) (why : OpenRefusal) → IsRefused r q a why → HasOneCallMore r q
+  refused_counts r q a (AsTooMany at gens) is = one_call_more r q a (TooMany a.caller a.asked.content (listed gens)) is.entry refl
+  refused_counts r q a (AsSpent at) is = one_call_more r q a (GenerationsSpent a.caller a.asked.content) is.entry refl

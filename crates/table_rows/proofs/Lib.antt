@@ -1,0 +1,2 @@
+mod SeatTrials
+mod Chain

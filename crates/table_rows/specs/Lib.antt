@@ -1,0 +1,2 @@
+pub mod SeatTrials
+pub mod TableTrials
