@@ -102,6 +102,7 @@ fn found_reply(
         alloc,
         &request.q,
         filters.as_slice(),
+        &request.sort,
         request.start,
         request.rows,
     )?;
@@ -242,10 +243,6 @@ impl Runner {
             Ok(request) => request,
             Err(fault) => return refused_row(alloc, config, head, &fault),
         };
-        if !request.sort.get().is_empty() {
-            let reply = refused_reply(alloc, config, "NotBuilt")?;
-            return Ok(head.row(None, None, None, reply));
-        }
         let reply = found_reply(alloc, config, &self.index, &request)?;
         let generation = self.current.generation;
         let ticket = self.acquire();

@@ -1,7 +1,7 @@
 use doc_model::Doc;
 use doc_sets::MAX_DOCS;
 use field_schema::{FieldNo, Key, NoMemory, Schema, Text};
-use query_tree::Query;
+use query_tree::{Query, Sort};
 use serde_json::Value;
 use served_index::Index;
 use std::alloc::Global;
@@ -102,7 +102,14 @@ fn found(
     start: u32,
     rows: u32,
 ) -> Result<(String, u32), Fail> {
-    let (page, count) = index.search(alloc, query, filters, start, rows)?;
+    let (page, count) = index.search(
+        alloc,
+        query,
+        filters,
+        &Sort::new(Vec::new(alloc)),
+        start,
+        rows,
+    )?;
     let mut told = String::new(alloc);
     for doc in page.as_slice() {
         told.push_str(text_of(doc.values(ID)))?;

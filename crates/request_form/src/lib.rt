@@ -21,5 +21,4 @@ mod value;
 pub use commit::CommitForm;
 pub use delete::DeleteForm;
 pub use fault::RequestFault;
-pub use params::has_param;
 pub use request::{Defaults, Filter, Filters, Request};

@@ -1,4 +1,4 @@
-ghost use Rattle.std.specs.Prelude.{◌≡◌, IfOk, is_some, option_map};
+ghost use Rattle.std.specs.Prelude.{◌≡◌, IfOk, option_map};
 ghost use Rattle.request_form.specs.Params.{has_name, params_of, value_of};
 
 use field_schema::{NoMemory, Text};
@@ -44,14 +44,4 @@ pub(crate) fn value_of<'a>(params: &'a [Param], name: &str) -> Option<&'a str>
         }
     }
     None
-}
-
-/// Whether a form has a parameter of a name.
-///
-/// Fails only for want of memory. It costs the length of the form.
-pub fn has_param(alloc: Global, params: &str, name: &str) -> Result<bool, NoMemory>
-    ensures { IfOk result (λ b. b ≡ is_some (value_of name.now (params_of params.now))) }
-{
-    let params = read_params(alloc, params)?;
-    Ok(value_of(params.as_slice(), name).is_some())
 }

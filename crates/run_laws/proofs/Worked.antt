@@ -1,5 +1,5 @@
 -- Which laws hold where a document is added, committed and found.
-use Rattle.std.proofs.Common.{◌≡◌, ℕ, List, [], ◌∷◌, length, map, take, drop, cond, true, ◌&&◌, Option, Some, None, codes, refl, ap, ◌∙◌, inl, arith, rules}
+use Rattle.std.proofs.Common.{◌≡◌, ℕ, List, [], ◌∷◌, length, map, take, drop, cond, Bool, true, ◌&&◌, Option, Some, None, codes, refl, ap, ◌∙◌, inl, arith, rules}
 use Rattle.std.specs.Fmt.{digits}
 use Rattle.serde_json.proofs.OnLiterals.{serde_json_on_literals}
 use Rattle.field_schema.specs.declared.key.Key.TheVariants.{Str}
@@ -7,7 +7,8 @@ use Rattle.doc_model.specs.Document.{Document}
 use Rattle.query_tree.specs.Matches.{top}
 use Rattle.query_tree.proofs.Matching.{top_Term}
 use Rattle.search_model.specs.Reply.{Outcome, found, accepted, found_of}
-use Rattle.search_model.specs.Answer.{Answer, answer}
+use Rattle.sort_order.specs.Order.{in_order}
+use Rattle.search_model.specs.Answer.{Answer, answer, entries}
 use Rattle.run_laws.proofs.OnLiterals.{requests_on_literals}
 use Rattle.script_form.specs.declared.config.Config.{Config}
 use Rattle.script_form.specs.declared.script.Line.{Line}
@@ -89,15 +90,19 @@ found_warmings acquired acquired_then pin ticket = (refl, ((refl, (3, omega arit
 x_matches : top document_a.values asked_x.query ≡ true
 x_matches = top_Term document_a.values 1 (Str (codes "x"))
 
+-- what is found where the document matches, or does not
+abbrev found_if : Bool → List Document
+found_if matches = map (λ e. e.1) (in_order [] (cond (matches && true) (entries (document_a ∷ [])) []))
+
 -- the query finds the document
 pub finds_one : found_of (found asked_x (answer (document_a ∷ []) asked_x)) ≡ 1
-finds_one = ap (λ b. length (cond (b && true) (document_a ∷ []) [])) x_matches
+finds_one = ap (λ b. length (found_if b)) x_matches
 
 pub worked_found : map (λ r. r.found) worked.requests ≡ 0 ∷ 0 ∷ 1 ∷ []
 worked_found = ap (λ n. 0 ∷ 0 ∷ n ∷ []) finds_one
 
 pub worked_docs : map (λ r. r.docs) worked.requests ≡ 0 ∷ 0 ∷ 1 ∷ []
-worked_docs = ap (λ b. 0 ∷ 0 ∷ length (take 10 (drop 0 (cond (b && true) (document_a ∷ []) []))) ∷ []) x_matches
+worked_docs = ap (λ b. 0 ∷ 0 ∷ length (take 10 (drop 0 (found_if b))) ∷ []) x_matches
 
 -- ---- the whole
 
@@ -131,8 +136,7 @@ worked_is_lawful = lawful_by one_warming add_commit_query worked worked_keeps
 
 pub one_answer : answer (document_a ∷ []) asked_x ≡ record { found = 1; docs = document_a ∷ [] }
 one_answer =
-    ap (λ b. let docs : List Document = cond (b && true) (document_a ∷ []) [] in
-    let a : Answer = record { found = length docs; docs = take 10 (drop 0 docs) } in a) x_matches
+    ap (λ b. let a : Answer = record { found = length (found_if b); docs = take 10 (drop 0 (found_if b)) } in a) x_matches
 
 -- the text, where the query is answered so
 text_with : Answer → List ℕ

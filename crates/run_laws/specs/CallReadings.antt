@@ -2,7 +2,6 @@
 use Rattle.std.specs.Prelude.{ℕ, List, [], ◌∷◌, map, Result, Ok, Err, codes}
 use Rattle.std.specs.Result.{result_map_both}
 use Rattle.doc_model.specs.ReadDoc.{doc_of}
-use Rattle.query_tree.specs.declared.sort.SortKey.{SortKey}
 use Rattle.request_form.specs.declared.commit.CommitForm.{CommitForm}
 use Rattle.request_form.specs.declared.delete.DeleteForm.{DeleteForm}
 use Rattle.request_form.specs.declared.delete.DeleteForm.TheVariants as delete_form
@@ -48,25 +47,17 @@ abbrev pub commit_of : List ℕ → Result CommitForm (List ℕ)
 commit_of [] = commit_told (commits.commit_of [])
 commit_of body = commit_told (commits.commit_of (params_of body))
 
--- what a request asks for, in the order of the index
+-- what a request asks for
 abbrev pub asked_by : Request → Asked
 asked_by r = record {
   query = r.q;
   filters = map (λ f. f.query) r.filters;
+  sort = r.sort;
   start = r.start;
   rows = r.rows;
   fields = r.fields;
 }
 
--- the request in the order of its sort; none is built so far but that of the index
-abbrev pub in_order : Request → List SortKey → Result Asked (List ℕ)
-in_order r [] = Ok (asked_by r)
-in_order r (key ∷ keys) = Err (codes "NotBuilt")
-
-abbrev pub answerable : Result Request RequestFault → Result Asked (List ℕ)
-answerable (Ok r) = in_order r r.sort
-answerable (Err fault) = Err (request_message fault)
-
--- what a query asks for
+-- what a query asks for, or the message of its first fault
 abbrev pub query_of : Config → List ℕ → Result Asked (List ℕ)
-query_of c body = answerable (request_of c.schema.list (defaults_of c) (params_of body))
+query_of c body = result_map_both asked_by request_message (request_of c.schema.list (defaults_of c) (params_of body))

@@ -92,7 +92,7 @@ document_a = record { values = (key.Str (codes "a") ∷ []) ∷ (key.Str (codes 
 
 -- what the body of the query asks for
 abbrev pub asked_x : Asked
-asked_x = record { query = Term 1 (key.Str (codes "x")); filters = []; start = 0; rows = 10; fields = fields.All }
+asked_x = record { query = Term 1 (key.Str (codes "x")); filters = []; sort = []; start = 0; rows = 10; fields = fields.All }
 
 abbrev pub line : ℕ → What → Line
 line number request = record { number = number; what = request }

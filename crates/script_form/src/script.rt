@@ -60,8 +60,6 @@ pub enum LineName {
     BadVerb,
     /// It is an add, a delete or a query, and nothing stands behind its second space, or there is none.
     BadBody,
-    /// It asks for what is not built so far. `read_script` never answers this.
-    NotBuilt,
 }
 
 /// The first line that is wrong.

@@ -1,25 +1,37 @@
 -- What a search finds, by the numbers of its documents.
-use Rattle.std.proofs.Common.{◌≡◌, ℕ, zero, suc, ◌+◌, ◌-◌, ◌<◌, ◌≤◌, Bool, true, false, ◌&&◌, cond, List, [], ◌∷◌, ◌++◌, length, get_or, map, filter, find, take, drop, nat_eq, refl, sym, ap, subst, ◌∙◌, arith, All, Some, IsSome, inl, inr}
-use Rattle.std.specs.List.{list_all, cons_option, drop-map}
+use Rattle.std.proofs.Common.{◌≡◌, ℕ, suc, ◌+◌, ◌<◌, ◌≤◌, Bool, true, false, ◌&&◌, cond, List, [], ◌∷◌, ◌++◌, length, get_or, map, filter, find, take, drop, nat_eq, refl, sym, ap, subst, ◌∙◌, arith, All, Some, IsSome, inl, inr}
+use Rattle.std.specs.List.{list_all, cons_option, drop-map, enumerate_from, range_with_len}
+use Rattle.std.specs.List.Sorted.{IsStrictlySortedBy}
+use Rattle.std.specs.Ordering.{nat_cmp}
 use Rattle.std.specs.Option.{option_map}
 use Rattle.std.specs.FinSet.{contains, from_list, contains-from_list_nat, contains-intersection, intersection, same_set, nat_cmp-IsAntisymmetric}
 use Rattle.std.specs.Cmp.{nat_cmp_total}
 use Rattle.std.proofs.Common.{eq-eqb}
 use Rattle.std.proofs.lemmas.Bool.{ne_eqb}
 use Rattle.std.proofs.lemmas.Bool.Decides.{eqb_tells}
-use Rattle.std.proofs.lemmas.List.{length-map, take-map, take_more, append_assoc}
+use Rattle.std.proofs.lemmas.List.{length-map, take-map, take_more, drop-take}
+use Rattle.std.proofs.lemmas.List.Sorted.{All-permutation, length_permutation}
+use Rattle.std.proofs.lemmas.Map.Keys.{sorted_from_strictly_increasing, IsStrictlyIncreasing-from_sorted}
 use Rattle.std.proofs.lemmas.List.Elements.{filter_map-append, All-cons, All-head, All-tail, All-filter, All-take, All-drop}
 use Rattle.std.proofs.lemmas.List.Folds.{list_all-append}
 use Rattle.doc_model.specs.Document.{Document}
-use Rattle.doc_sets.specs.Sets.{Numbers, Rises, is_in, members}
+use Rattle.doc_sets.specs.Sets.{Numbers, Rises, IsListing, is_in, members}
 use Rattle.doc_sets.specs.declared.TheConstants.{MAX_DOCS}
-use Rattle.doc_sets.proofs.Rising.{Rises-higher}
+use Rattle.doc_sets.proofs.Rising.{Rises-higher, Rises-range, Rises-apart, place_of}
+use Rattle.doc_sets.proofs.Members.{all_documents}
 use Rattle.doc_sets.proofs.SetsOf.{members_of}
 use Rattle.query_tree.specs.declared.query.Query.{Query}
+use Rattle.query_tree.specs.declared.sort.SortKey.{SortKey}
 use Rattle.query_tree.specs.Matches.{top}
 use Rattle.segment_postings.specs.Numbered.{Numbered, docs, numbers, doc_at, IsNumbered, IsLive}
-use Rattle.served_index.specs.Standing.{numbers_where, is_hit, docs_at}
-use Rattle.served_index.proofs.Leaving.{where_rises, where_here, where_other}
+use Rattle.sort_order.specs.Order.{Entry, comes_before, in_order}
+use Rattle.sort_order.proofs.Placing.{sorted-same}
+use Rattle.sort_order.proofs.Renumbered.{order_of_numbers_counts}
+use Rattle.sort_window.specs.First.{AreLive, among, first_numbers}
+use Rattle.sort_window.proofs.Among.{members_among, length-among}
+use Rattle.search_model.specs.Answer.{is_hit, entries}
+use Rattle.served_index.specs.Standing.{numbers_where, docs_at}
+use Rattle.served_index.proofs.Leaving.{where_rises, where_here, where_other, enumerated}
 
 -- ---- numbers that pass two tests
 
@@ -111,42 +123,112 @@ filter-map f p (x ∷ xs) =
       | false ↦ filter-map f p xs
     ]
 
-module _ (v : Numbered) (p : Document → Bool) (found : Numbers) (is : IsNumbered v) (at : found ≡ from_list (numbers_where p v.list)) where
-  page_entries : ℕ → ℕ → List (ℕ × Document)
-  page_entries start rows = take rows (drop start (filter (λ e. p e.1) v.list))
+numbers_of-enumerated : (n : ℕ) (ds : List Document) → map (λ e. e.0) (enumerate_from n ds) ≡ range_with_len n (length ds)
+numbers_of-enumerated n [] = refl
+numbers_of-enumerated n (d ∷ ds) = ap (λ ns. n ∷ ns) (numbers_of-enumerated (n + 1) ds)
 
-  pub members_are : members found ≡ numbers_where p v.list
-  members_are = ap members at ∙ members_of (numbers_where p v.list) (Rises-higher 0 v.size MAX_DOCS (numbers_where p v.list) is.most (where_rises p 0 v.size v.list is.rising))
+entries_rise : (ds : List Document) → Rises 0 (length ds) (map (λ e. e.0) (entries ds))
+entries_rise ds =
+    let whole : 0 + length ds ≡ length ds = omega arith in
+    subst (Rises 0 (length ds)) (sym (numbers_of-enumerated 0 ds)) (subst (λ n. Rises 0 n (range_with_len 0 (length ds))) whole (Rises-range 0 (length ds)))
 
-  pub count_is : length (members found) ≡ length (filter p (docs v))
+sorted_rising : (low high : ℕ) (xs : List ℕ) → Rises low high xs → IsStrictlySortedBy nat_cmp xs
+sorted_rising low high xs up =
+    sorted_from_strictly_increasing xs (λ k within. Rises-apart low high k (k + 1) xs up (omega arith) within)
+
+module _ (v : Numbered) (p : Document → Bool) (sort : List SortKey) (found : Numbers) (is : IsNumbered v) (at : found ≡ from_list (numbers_where p v.list)) where
+  met : List Entry
+  met = filter (λ e. p e.1) v.list
+
+  met_rise : Rises 0 v.size (map (λ e. e.0) met)
+  unfolding met
+  met_rise = where_rises p 0 v.size v.list is.rising
+
+  met_at : All (IsAt v) met
+  unfolding met
+  met_at = All-filter (λ e. p e.1) (IsAt v) v.list (all_at v is)
+
+  -- each number of the set is that of a live document
+  pub are_live : AreLive found v
+  unfolding met
+  are_live n h =
+      let k = place_of (numbers_where p v.list) n (sym (ap (λ s. contains s n) at ∙ contains-from_list_nat (numbers_where p v.list) n) ∙ h) in
+      subst (IsLive v) k.2 (live_of_numbers v met met_at k.0 0 k.1)
+
+  members_are : members found ≡ map (λ e. e.0) met
+  unfolding met
+  members_are = ap members at ∙ members_of (numbers_where p v.list) (Rises-higher 0 v.size MAX_DOCS (numbers_where p v.list) is.most met_rise)
+
+  -- the set's members are its numbers
+  listing : IsListing found (members found)
+  unfolding met
+  listing =
+      let up : Rises 0 MAX_DOCS (numbers_where p v.list) = Rises-higher 0 v.size MAX_DOCS (numbers_where p v.list) is.most met_rise in
+      subst (IsListing found) (sym members_are) (record {
+        rising = IsStrictlyIncreasing-from_sorted (numbers_where p v.list) (sorted_rising 0 MAX_DOCS (numbers_where p v.list) up);
+        documents = all_documents (numbers_where p v.list) up;
+        same = λ n. sym (ap (λ s. contains s n) at ∙ contains-from_list_nat (numbers_where p v.list) n);
+      })
+
+  among_numbers : map (λ e. e.0) (among found v) ≡ map (λ e. e.0) met
+  among_numbers = sym (members_among found v is are_live listing) ∙ members_are
+
+  among_at : All (IsAt v) (among found v)
+  among_at = All-filter (λ e. contains found e.0) (IsAt v) v.list (all_at v is)
+
+  -- the documents of the set are those that pass
+  among_docs : map (λ e. e.1) (among found v) ≡ filter p (docs v)
+  unfolding met
+  among_docs =
+      sym (docs_of_numbers v (among found v) among_at) ∙ ap (docs_at v) among_numbers ∙ docs_of_numbers v met met_at
+      ∙ sym (filter-map (λ e. e.1) p v.list)
+
+  -- numbered by the view or by their places, they stand in one order
+  one_order : map (λ e. e.1) (in_order sort (among found v)) ≡ map (λ e. e.1) (in_order sort (filter (λ e. p e.1) (entries (docs v))))
+  one_order =
+      let ds : List Document = docs v in
+      let es : List Entry = filter (λ e. p e.1) (entries ds) in
+      let same : map (λ e. e.1) (among found v) ≡ map (λ e. e.1) es =
+      among_docs ∙ ap (filter p) (sym (enumerated 0 ds)) ∙ filter-map (λ e. e.1) p (entries ds) in
+      order_of_numbers_counts sort (among found v)
+      (subst (IsStrictlySortedBy nat_cmp) (sym among_numbers) (sorted_rising 0 v.size (map (λ e. e.0) met) met_rise))
+      ∙ ap (λ xs. map (λ e. e.1) (in_order sort (enumerate_from 0 xs))) same
+      ∙ sym (order_of_numbers_counts sort es (sorted_rising 0 (length ds) (map (λ e. e.0) es) (where_rises p 0 (length ds) (entries ds) (entries_rise ds))))
+
+  pub count_is : length (members found) ≡ length (map (λ e. e.1) (in_order sort (filter (λ e. p e.1) (entries (docs v)))))
   count_is =
-      ap length members_are ∙ length-map (filter (λ e. p e.1) v.list) (λ e. e.0) ∙ sym (length-map (filter (λ e. p e.1) v.list) (λ e. e.1))
-      ∙ ap length (sym (filter-map (λ e. e.1) p v.list))
+      sym (length-among found v is are_live listing)
+      ∙ sym (length_permutation (among found v) (in_order sort (among found v)) (sorted-same (comes_before sort) (among found v)))
+      ∙ sym (length-map (in_order sort (among found v)) (λ e. e.1)) ∙ ap length one_order
 
-  numbers_are : (start rows : ℕ) (ns : List ℕ) → ns ≡ take rows (drop start (members found)) → ns ≡ map (λ e. e.0) (page_entries start rows)
-  unfolding page_entries
-  numbers_are start rows ns h =
-      h ∙ ap (λ xs. take rows (drop start xs)) members_are
-      ∙ ap (take rows) (drop-map (λ e. e.0) start (filter (λ e. p e.1) v.list))
-      ∙ take-map (λ e. e.0) rows (drop start (filter (λ e. p e.1) v.list))
+  ordered_at : All (IsAt v) (in_order sort (among found v))
+  ordered_at = All-permutation (IsAt v) (among found v) (in_order sort (among found v)) (sorted-same (comes_before sort) (among found v)) among_at
 
-  entries_at : (start rows : ℕ) → All (IsAt v) (page_entries start rows)
-  unfolding page_entries
-  entries_at start rows =
-      All-take (IsAt v) rows (drop start (filter (λ e. p e.1) v.list))
-      (All-drop (IsAt v) start (filter (λ e. p e.1) v.list) (All-filter (λ e. p e.1) (IsAt v) v.list (all_at v is)))
+  module _ (start rows : ℕ) (ns : List ℕ) (first : ns ≡ drop start (first_numbers (start + rows) sort found v)) where
+    page : List Entry
+    page = drop start (take (start + rows) (in_order sort (among found v)))
 
-  pub page_live : (start rows : ℕ) (ns : List ℕ) → ns ≡ take rows (drop start (members found)) → All (IsLive v) ns
-  page_live start rows ns h = subst (All (IsLive v)) (sym (numbers_are start rows ns h)) (live_of_numbers v (page_entries start rows) (entries_at start rows))
+    page_at : All (IsAt v) page
+    unfolding page
+    page_at =
+        All-drop (IsAt v) start (take (start + rows) (in_order sort (among found v)))
+        (All-take (IsAt v) (start + rows) (in_order sort (among found v)) ordered_at)
 
-  pub page_is : (start rows : ℕ) (ns : List ℕ) → ns ≡ take rows (drop start (members found)) → docs_at v ns ≡ take rows (drop start (filter p (docs v)))
-  unfolding page_entries
-  page_is start rows ns h =
-      ap (docs_at v) (numbers_are start rows ns h)
-      ∙ docs_of_numbers v (page_entries start rows) (entries_at start rows)
-      ∙ sym (take-map (λ e. e.1) rows (drop start (filter (λ e. p e.1) v.list)))
-      ∙ ap (take rows) (sym (drop-map (λ e. e.1) start (filter (λ e. p e.1) v.list)))
-      ∙ ap (λ xs. take rows (drop start xs)) (sym (filter-map (λ e. e.1) p v.list))
+    page_numbers : ns ≡ map (λ e. e.0) page
+    unfolding page
+    page_numbers = first ∙ drop-map (λ e. e.0) start (take (start + rows) (in_order sort (among found v)))
+
+    pub page_live : All (IsLive v) ns
+    page_live = subst (All (IsLive v)) (sym page_numbers) (live_of_numbers v page page_at)
+
+    pub page_is : docs_at v ns ≡ take rows (drop start (map (λ e. e.1) (in_order sort (filter (λ e. p e.1) (entries (docs v))))))
+    unfolding page
+    page_is =
+        ap (docs_at v) page_numbers ∙ docs_of_numbers v page page_at
+        ∙ ap (map (λ e. e.1)) (drop-take start rows (in_order sort (among found v)))
+        ∙ sym (take-map (λ e. e.1) rows (drop start (in_order sort (among found v))))
+        ∙ ap (take rows) (sym (drop-map (λ e. e.1) start (in_order sort (among found v))))
+        ∙ ap (λ ds. take rows (drop start ds)) one_order
 
 -- ---- the loops
 
@@ -158,23 +240,3 @@ docs_at-more v numbers i n d old new within item here before is =
     ∙ ap (λ o. docs_at v (take i numbers) ++ cons_option o []) (sym here)
     ∙ sym (filter_map-append (doc_at v) (take i numbers) (n ∷ []))
     ∙ ap (docs_at v) (ap (λ t. take i numbers ++ t ∷ []) item ∙ sym (take_more numbers i 0 within))
-
--- a number that is passed over
-pub window_skip : (rows start left before next n : ℕ) (all taken rest more : List ℕ) → take rows (drop start all) ≡ taken ++ take left (drop before more) → more ≡ n ∷ rest
-    → 0 < before → next ≡ before - 1 → take rows (drop start all) ≡ taken ++ take left (drop next rest)
-window_skip rows start left zero next n all taken rest more inv is some e = absurd (omega arith)
-window_skip rows start left (suc before) next n all taken rest more inv is some e =
-    let at : before ≡ next = omega arith in
-    inv ∙ ap (λ xs. taken ++ take left (drop (suc before) xs)) is ∙ ap (λ k. taken ++ take left (drop k rest)) at
-
--- a number that is taken
-pub window_take : (rows start left before next n : ℕ) (all taken now rest more : List ℕ) → take rows (drop start all) ≡ taken ++ take left (drop before more) → more ≡ n ∷ rest
-    → before ≡ 0 → 0 < left → next ≡ left - 1 → now ≡ taken ++ n ∷ [] → take rows (drop start all) ≡ now ++ take next (drop before rest)
-window_take rows start zero before next n all taken now rest more inv is none some e push = absurd (omega arith)
-window_take rows start (suc left) before next n all taken now rest more inv is none some e push =
-    let at : left ≡ next = omega arith in
-    inv ∙ ap (λ k. taken ++ take (suc left) (drop k more)) none ∙ ap (λ xs. taken ++ take (suc left) xs) is
-    ∙ sym (append_assoc taken (n ∷ []) (take left rest))
-    ∙ ap (λ xs. xs ++ take left rest) (sym push)
-    ∙ (λ j. now ++ take (at j) rest)
-    ∙ ap (λ k. now ++ take next (drop k rest)) (sym none)

@@ -134,7 +134,7 @@ HaveIds-staying v gone field ids = by v.list ids
           | false ↦ rest
         ]
 
-enumerated : {X : Type 0} (n : ℕ) (xs : List X) → map (λ e. e.1) (enumerate_from n xs) ≡ xs
+pub enumerated : {X : Type 0} (n : ℕ) (xs : List X) → map (λ e. e.1) (enumerate_from n xs) ≡ xs
 enumerated n [] = refl
 enumerated n (x ∷ xs) = ap (λ ys. x ∷ ys) (enumerated (n + 1) xs)
 

@@ -1,9 +1,6 @@
--- What contracts see of an index, and what a search finds.
-use Rattle.std.specs.Prelude.{ℕ, List, ◌&&◌, filter}
-use Rattle.std.specs.List.{list_all}
+-- What contracts see of an index.
+use Rattle.std.specs.Prelude.{ℕ, List}
 use Rattle.doc_model.specs.Document.{Document}
-use Rattle.query_tree.specs.declared.query.Query.{Query}
-use Rattle.query_tree.specs.Matches.{top}
 
 -- the documents that stand and those that the current searcher sees, both in index order; how many document numbers
 -- are taken; and the place of the unique key's field
@@ -12,7 +9,3 @@ pub record IndexState : Type 0 where
   pub served : List Document
   pub numbers : ℕ
   pub key : ℕ
-
--- the documents that match the query and every filter
-abbrev pub hits : List Document → Query → List Query → List Document
-hits docs q fs = filter (λ d. top d.values q && list_all (top d.values) fs) docs

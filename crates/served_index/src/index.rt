@@ -1,18 +1,18 @@
 ghost use Rattle.std.specs.Prelude.{◌≡◌, ◌<◌, ◌≤◌, ◌+◌, ◌^◌, [], OnOk, OnErr, IfOk, length, map, take, drop};
 ghost use Rattle.std.specs.Arc.{arc_value};
 ghost use Rattle.search_model.specs.Live.{added, deleted_id, deleted_query, after};
-ghost use Rattle.served_index.specs.IndexState.{hits};
+ghost use Rattle.search_model.specs.Answer.{hits};
 ghost use Rattle.doc_model.specs.Document.{IsIdAt};
 ghost use Rattle.doc_sets.specs.declared.TheConstants.{MAX_DOCS};
 ghost use Rattle.segment_postings.specs.Numbered.{docs};
 
 use crate::gone::{all_gone, numbers_with_id, set_of};
 use crate::pending::Pending;
-use crate::search::{hit_numbers, matching_numbers, stored, window};
+use crate::search::{first_numbers, from_start, hit_numbers, matching_numbers, stored};
 use doc_model::Doc;
 use doc_sets::DocNo;
 use field_schema::{FieldNo, NoMemory, Text};
-use query_tree::Query;
+use query_tree::{Query, Sort};
 use segment_postings::View;
 use std::alloc::Global;
 use std::marker::Model;
@@ -167,28 +167,30 @@ impl Index {
         Ok(())
     }
 
-    /// Those of the documents that match a query and every filter and that the current searcher sees, `rows` of them
-    /// without the first `start`, and how many there are.
+    /// Those of the documents that match a query and every filter and that the current searcher sees, in the order of a
+    /// sort: `rows` of them without the first `start`, and how many there are.
     ///
-    /// Fails only for want of memory. It costs the evaluation of the query and of each filter, a step for each of the
-    /// first `start` documents, and the page.
+    /// Fails only for want of memory. It costs the evaluation of the query and of each filter, a step for each document
+    /// up to the end of the page, and where a field sorts a value and a step in a heap for each that is found.
     pub fn search(
         &self,
         alloc: Global,
         query: &Query,
         filters: &[&Query],
+        sort: &Sort,
         start: u32,
         rows: u32,
     ) -> Result<(Vec<Arc<Doc>>, u32), NoMemory>
         ensures found { IfOk result (λ r. r.1
-            ≡ length (hits self.now.served query.now (map (λ q. q.now) filters.now))) }
+            ≡ length (hits self.now.served query.now (map (λ q. q.now) filters.now) sort.now)) }
         ensures page { IfOk result (λ r. map arc_value r.0.items
             ≡ take rows (drop start
-            (hits self.now.served query.now (map (λ q. q.now) filters.now)))) }
+            (hits self.now.served query.now (map (λ q. q.now) filters.now) sort.now))) }
     {
         let found = hit_numbers(alloc, &self.current, query, filters)?;
-        let numbers = window(alloc, &found, start, rows)?;
-        let page = stored(alloc, &self.current, &numbers)?;
+        let end = u64::from(start) + u64::from(rows);
+        let first = first_numbers(alloc, &self.current, &found, sort, end)?;
+        let page = stored(alloc, &self.current, from_start(first.get(), start))?;
         Ok((page, found.len()))
     }
 }

@@ -1,17 +1,18 @@
 //! Searches of the view that the current searcher sees.
-ghost use Rattle.std.specs.Prelude.{◌≡◌, IfOk, map, take, drop, length, All};
+ghost use Rattle.std.specs.Prelude.{◌≡◌, IfOk, map, drop, All};
 ghost use Rattle.std.specs.Arc.{arc_value};
 ghost use Rattle.std.specs.FinSet as set;
-ghost use Rattle.doc_sets.specs.Sets.{members};
 ghost use Rattle.segment_postings.specs.Numbered.{IsNumbered, IsLive};
+ghost use Rattle.sort_window.specs.First.{AreLive, first_numbers as first_of};
 ghost use Rattle.served_index.specs.Standing.{matching, hitting, docs_at};
 
 use doc_model::Doc;
-use doc_sets::{DocNo, DocSet};
+use doc_sets::{DocList, DocNo, DocSet};
 use field_schema::NoMemory;
 use query_eval::eval;
-use query_tree::Query;
+use query_tree::{Query, Sort};
 use segment_postings::{Probe, Reads, View};
+use sort_window::first_n;
 use std::alloc::Global;
 use std::sync::Arc;
 
@@ -53,30 +54,26 @@ pub(crate) fn hit_numbers(
     Ok(found)
 }
 
-// The members of a set without the first `start`, and no more than `rows`.
-pub(crate) fn window(
+// The numbers of the first documents of a set in the order of a sort.
+pub(crate) fn first_numbers(
     alloc: Global,
-    found: &DocSet,
-    start: u32,
-    rows: u32,
-) -> Result<Vec<DocNo>, NoMemory>
-    ensures { IfOk result (λ v. v.items ≡ take rows (drop start (members found.now))) }
+    view: &View,
+    set: &DocSet,
+    sort: &Sort,
+    end: u64,
+) -> Result<DocList, NoMemory>
+    requires live { AreLive set.now view.now.seen }
+    ensures { IfOk result (λ l. l ≡ first_of end sort.now set.now view.now.seen) }
 {
-    let mut numbers = Vec::new(alloc);
-    let mut before = start;
-    let mut left = rows;
-    for number in found.iter() {
-        if left == 0 {
-            break;
-        }
-        if before > 0 {
-            before -= 1;
-        } else {
-            numbers.push(number)?;
-            left -= 1;
-        }
-    }
-    Ok(numbers)
+    first_n(alloc, &mut Probe::new(view), set, sort, end)
+}
+
+// The numbers without the first `start`.
+pub(crate) fn from_start(numbers: &[DocNo], start: u32) -> &[DocNo]
+    ensures { result.now ≡ drop start numbers.now }
+{
+    let start = numbers.len().min(start as usize);
+    &numbers[start..]
 }
 
 // The documents of numbers, shared.

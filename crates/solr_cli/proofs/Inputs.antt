@@ -1,24 +1,20 @@
 -- What follows for an input that reads.
 use Rattle.std.proofs.Common.{◌≡◌, refl, sym, ◌∙◌, ap, ℕ, zero, suc, map, ◌+◌, ◌<◌, ◌≤◌, List, [], ◌∷◌, length, Bool, true, false, ◌||◌, cond, nat_lt, Option, Some, None, Result, Ok, Err, arith, subst}
 use Rattle.std.proofs.lemmas.Bool.Decides.{nat_tests}
-use Rattle.std.specs.Option.{option_map_or}
 use Rattle.std.specs.List.{AllByRecursion, range_with_len}
 use Rattle.run_laws.specs.Lawful.{Ascends}
 use Rattle.script_form.specs.declared.config.Config.{Config}
 use Rattle.script_form.specs.declared.script.Line.{Line}
 use Rattle.script_form.specs.declared.script.LineFault.{LineFault}
-use Rattle.script_form.specs.declared.script.LineName.TheVariants.{NotBuilt}
 use Rattle.script_form.specs.declared.script.What.{What}
 use Rattle.script_form.specs.Lines.{most_input, most_lines, too_large, lines_too_large, script_lines}
 use Rattle.script_form.specs.declared.script.Front.{Front}
 use Rattle.script_form.specs.declared.script.LineName.{LineName}
 use Rattle.script_form.specs.declared.script.ScriptRefusal.TheVariants as refusal
 use Rattle.script_form.specs.ReadConfig.{config_of}
-use Rattle.script_form.specs.ReadScript.{what_of, in_front, front_from, front_of, whole_script, script_of, line_failed, most_clients}
+use Rattle.script_form.specs.ReadScript.{most_clients}
 use Rattle.script_form.specs.Ranges.{IsScript}
 use Rattle.script_form.proofs.Ranges.{config_is}
-use Rattle.script_form.proofs.ScriptRanges.{script_is}
-use Rattle.solr_cli.specs.BuiltForms.{built_script, first_unbuilt}
 
 first_false : (a b : Bool) → (a || b) ≡ false → a ≡ false
 first_false true b h = h
@@ -58,18 +54,6 @@ pub some_warming : (input : List ℕ) (c : Config) → config_of input ≡ Ok c 
 some_warming input c h = (config_is input c h).max_warming.0
 
 -- ---- the script
-
--- what is built is what the script reads to
-pub built_is_read : (c : Config) (ls : List (List ℕ)) (script : List Line) → built_script c ls ≡ Ok script → script_of most_clients ls ≡ Ok script
-built_is_read c ls script h = by_line (first_unbuilt c (front_of most_clients ls).lines) h
-  where
-    by_line : (n : Option ℕ) → option_map_or (λ k. Err (line_failed k NotBuilt)) n (script_of most_clients ls) ≡ Ok script → script_of most_clients ls ≡ Ok script
-    by_line None e = e
-    by_line (Some k) e = absurd (cc)
-
--- its lines are numbered from 1, their clients are those that there are, and there are no more of them than of the text
-pub built_is_script : (c : Config) (ls : List (List ℕ)) (script : List Line) → built_script c ls ≡ Ok script → IsScript most_clients script × (length script ≡ length ls)
-built_is_script c ls script h = script_is most_clients ls script (built_is_read c ls script h)
 
 above : (m k n : ℕ) → k < n → AllByRecursion (λ q. k < q) (range_with_len n m)
 above zero k n h = tt

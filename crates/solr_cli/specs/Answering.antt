@@ -6,13 +6,13 @@ use Rattle.script_form.specs.declared.script.Line.{Line}
 use Rattle.script_form.specs.declared.script.LineFault.{LineFault}
 use Rattle.script_form.specs.Lines.{too_large, script_lines}
 use Rattle.script_form.specs.ReadConfig.{config_of}
+use Rattle.script_form.specs.ReadScript.{most_clients, script_of}
 use Rattle.script_form.specs.declared.script.ScriptRefusal.TheVariants as script_refusal
 use Rattle.script_form.specs.declared.config.ConfigRefusal.TheVariants as config_refusal
 use Rattle.run_laws.specs.Rows.{Output}
 use Rattle.run_laws.specs.Lawful.{Lawful}
 use Rattle.run_laws.specs.OutputText.{output_text}
 use Rattle.client_runner.specs.Histories.{GoesByHistory}
-use Rattle.solr_cli.specs.BuiltForms.{built_script}
 use Rattle.solr_cli.specs.declared.status.Status.{Status}
 use Rattle.solr_cli.specs.declared.status.Status.TheVariants as status
 
@@ -20,7 +20,7 @@ use Rattle.solr_cli.specs.declared.status.Status.TheVariants as status
 pub record ReadsTo (input : List ℕ) (c : Config) (ls : List Line) : Type 0 where
   pub within : too_large input ≡ false
   pub config : config_of input ≡ Ok c
-  pub script : built_script c (script_lines input) ≡ Ok ls
+  pub script : script_of most_clients (script_lines input) ≡ Ok ls
 
 -- the first check of the configuration that fails
 pub record IsBadConfig (input : List ℕ) (fault : ConfigFault) : Type 0 where
@@ -31,7 +31,7 @@ pub record IsBadConfig (input : List ℕ) (fault : ConfigFault) : Type 0 where
 pub record IsBadLine (input : List ℕ) (c : Config) (fault : LineFault) : Type 0 where
   pub within : too_large input ≡ false
   pub config : config_of input ≡ Ok c
-  pub script : built_script c (script_lines input) ≡ Err (script_refusal.Fault fault)
+  pub script : script_of most_clients (script_lines input) ≡ Err (script_refusal.Fault fault)
 
 -- why an input is refused: each status has its cause in the bytes, and want of memory is free
 abbrev pub IsRefusal : List ℕ → Status → Type 0

@@ -1,7 +1,6 @@
 pub mod Statuses
 pub mod Reading
 pub mod Writing
-pub mod BuiltForms
 pub mod Answering
 pub mod Top
 pub mod InputRuns

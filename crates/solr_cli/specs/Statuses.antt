@@ -1,7 +1,7 @@
 -- The numbers and the texts of the statuses.
 use Rattle.std.specs.Prelude.{ℕ, List, [], ◌++◌, codes, decimal}
 use Rattle.script_form.specs.declared.script.LineName.{LineName}
-use Rattle.script_form.specs.declared.script.LineName.TheVariants.{NotUtf8, NoClient, BadClient, BadVerb, BadBody, NotBuilt}
+use Rattle.script_form.specs.declared.script.LineName.TheVariants.{NotUtf8, NoClient, BadClient, BadVerb, BadBody}
 use Rattle.solr_cli.specs.declared.status.Status.{Status}
 use Rattle.solr_cli.specs.declared.status.Status.TheVariants.{Done, Usage, ReadFault, WriteFault, BadConfig, BadLine, TooLarge, NoMemory}
 
@@ -22,7 +22,6 @@ name_of NoClient = codes "NoClient"
 name_of BadClient = codes "BadClient"
 name_of BadVerb = codes "BadVerb"
 name_of BadBody = codes "BadBody"
-name_of NotBuilt = codes "NotBuilt"
 
 -- a number and a name, and what stands between them
 abbrev pub named_line : ℕ → List ℕ → List ℕ → List ℕ

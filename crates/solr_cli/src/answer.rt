@@ -2,12 +2,13 @@ ghost use Rattle.std.specs.Prelude.{◌≡◌, MatchResult};
 ghost use Rattle.client_runner.specs.Outputs.{output_view};
 ghost use Rattle.solr_cli.specs.Answering.{IsAnswer, IsRefusal, ReadsTo};
 
-use crate::built::read_built;
 use crate::status::Status;
 use client_runner::{Output, output_text, run_script};
 use field_schema::Text;
 use rt_edge::Gate;
-use script_form::{Config, ConfigRefusal, Script, ScriptRefusal, read_config, too_large};
+use script_form::{
+    Config, ConfigRefusal, Script, ScriptRefusal, read_config, read_script, too_large,
+};
 use std::alloc::Global;
 
 // The configuration and the script of an input, or the first status that refuses it.
@@ -27,7 +28,7 @@ fn read_input(alloc: Global, bytes: &[u8]) -> Result<(Config, Script), Status>
         }
         Err(ConfigRefusal::NoMemory) => return Err(Status::NoMemory),
     };
-    match read_built(alloc, &config, &bytes[begin..]) {
+    match read_script(alloc, &bytes[begin..]) {
         Ok(script) => Ok((config, script)),
         Err(ScriptRefusal::Fault(fault)) => Err(Status::BadLine {
             line: fault.line,

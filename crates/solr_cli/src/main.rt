@@ -3,7 +3,6 @@
 
 mod answer;
 mod arguments;
-mod built;
 mod ending;
 mod reading;
 mod status;

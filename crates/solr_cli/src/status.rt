@@ -58,7 +58,6 @@ pub(crate) fn line_name(name: LineName) -> &'static str
         LineName::BadClient => "BadClient",
         LineName::BadVerb => "BadVerb",
         LineName::BadBody => "BadBody",
-        LineName::NotBuilt => "NotBuilt",
     }
 }
 

@@ -94,7 +94,7 @@ fn check(
 }
 
 // Configurations with scripts, and what they write.
-const RUNS: [(&str, &str, &str); 9] = [
+const RUNS: [(&str, &str, &str); 11] = [
     (TWO_FIELDS, FOUND, FOUND_LINES),
     (
         FOUR_TYPES,
@@ -128,6 +128,36 @@ const RUNS: [(&str, &str, &str); 9] = [
 {\"client\":1,\"generation\":2,\"line\":5,\"reply\":{\"response\":{\"docs\":[{\"cat\":\"y\",\"id\":\"a\"}],\"numFound\":1,\"numFoundExact\":true,\"start\":0},\"responseHeader\":{\"status\":0}},\"ticket\":0}
 {\"acquired\":1,\"finished\":1,\"generation\":1,\"opened\":0}
 {\"acquired\":1,\"finished\":6,\"from\":1,\"fromTicket\":0,\"generation\":2,\"opened\":5}
+",
+    ),
+    (
+        FOUR_TYPES,
+        "1 add {\"id\":\"a\",\"cat\":\"x\"}\n1 add {\"id\":\"b\"}\n1 add {\"id\":\"a\",\"cat\":\"y\"}\n1 commit\n1 query q=*:*&fl=id,cat\n",
+        "{\"client\":1,\"line\":1,\"place\":2,\"reply\":{\"responseHeader\":{\"status\":0}}}
+{\"client\":1,\"line\":2,\"place\":3,\"reply\":{\"responseHeader\":{\"status\":0}}}
+{\"client\":1,\"line\":3,\"place\":4,\"reply\":{\"responseHeader\":{\"status\":0}}}
+{\"client\":1,\"generation\":2,\"line\":4,\"place\":5,\"reply\":{\"responseHeader\":{\"status\":0}}}
+{\"client\":1,\"generation\":2,\"line\":5,\"reply\":{\"response\":{\"docs\":[{\"id\":\"b\"},{\"cat\":\"y\",\"id\":\"a\"}],\"numFound\":2,\"numFoundExact\":true,\"start\":0},\"responseHeader\":{\"status\":0}},\"ticket\":0}
+{\"acquired\":1,\"finished\":1,\"generation\":1,\"opened\":0}
+{\"acquired\":1,\"finished\":6,\"from\":1,\"fromTicket\":0,\"generation\":2,\"opened\":5}
+",
+    ),
+    (
+        FOUR_TYPES,
+        "1 add {\"id\":\"a\",\"cat\":\"x\"}\n1 add {\"id\":\"b\"}\n1 add {\"id\":\"a\",\"cat\":\"y\"}\n1 commit\n1 delete id=a\n1 add {\"id\":\"c\",\"cat\":\"z\"}\n1 delete query=cat:z\n1 query q=*:*&fl=id\n1 commit\n1 query q=*:*&fl=id\n",
+        "{\"client\":1,\"line\":1,\"place\":2,\"reply\":{\"responseHeader\":{\"status\":0}}}
+{\"client\":1,\"line\":2,\"place\":3,\"reply\":{\"responseHeader\":{\"status\":0}}}
+{\"client\":1,\"line\":3,\"place\":4,\"reply\":{\"responseHeader\":{\"status\":0}}}
+{\"client\":1,\"generation\":2,\"line\":4,\"place\":5,\"reply\":{\"responseHeader\":{\"status\":0}}}
+{\"client\":1,\"line\":5,\"place\":7,\"reply\":{\"responseHeader\":{\"status\":0}}}
+{\"client\":1,\"line\":6,\"place\":8,\"reply\":{\"responseHeader\":{\"status\":0}}}
+{\"client\":1,\"line\":7,\"place\":9,\"reply\":{\"responseHeader\":{\"status\":0}}}
+{\"client\":1,\"generation\":2,\"line\":8,\"reply\":{\"response\":{\"docs\":[{\"id\":\"b\"},{\"id\":\"a\"}],\"numFound\":2,\"numFoundExact\":true,\"start\":0},\"responseHeader\":{\"status\":0}},\"ticket\":0}
+{\"client\":1,\"generation\":3,\"line\":9,\"place\":10,\"reply\":{\"responseHeader\":{\"status\":0}}}
+{\"client\":1,\"generation\":3,\"line\":10,\"reply\":{\"response\":{\"docs\":[{\"id\":\"b\"}],\"numFound\":1,\"numFoundExact\":true,\"start\":0},\"responseHeader\":{\"status\":0}},\"ticket\":0}
+{\"acquired\":1,\"finished\":1,\"generation\":1,\"opened\":0}
+{\"acquired\":2,\"finished\":6,\"from\":1,\"fromTicket\":0,\"generation\":2,\"opened\":5}
+{\"acquired\":1,\"finished\":11,\"from\":2,\"fromTicket\":1,\"generation\":3,\"opened\":10}
 ",
     ),
     (
@@ -189,7 +219,7 @@ const RUNS: [(&str, &str, &str); 9] = [
 ];
 
 // Configurations with scripts that are refused, the exit code and the line on standard error.
-const REFUSED: [(&str, &str, u8, &str); 10] = [
+const REFUSED: [(&str, &str, u8, &str); 8] = [
     ("{\"schema\":{", "", 5, "bad configuration: check 1, %%\n"),
     ("", "1 commit\n", 5, "bad configuration: check 1, %%\n"),
     (
@@ -202,18 +232,6 @@ const REFUSED: [(&str, &str, u8, &str); 10] = [
     (FOUR_TYPES, "\n13 commit\n", 6, "bad line 2: BadClient\n"),
     (FOUR_TYPES, "1 drop x\n", 6, "bad line 1: BadVerb\n"),
     (FOUR_TYPES, "1 add\n", 6, "bad line 1: BadBody\n"),
-    (
-        TWO_FIELDS,
-        "1 commit\n1 query q=cat:x&fl=id\n1 add\n",
-        6,
-        "bad line 2: NotBuilt\n",
-    ),
-    (
-        FOUR_TYPES,
-        "1 query q=cat:x&sort=\n1 query q=*:*&sort=price+asc\n",
-        6,
-        "bad line 2: NotBuilt\n",
-    ),
     (
         FOUR_TYPES,
         "1 add\n1 query q=*:*&fl=\n",
@@ -238,8 +256,12 @@ const C: &str = "{\"cat\":\"x\",\"id\":\"c\",\"price\":9}";
 
 const D: &str = "{\"id\":\"d\",\"price\":5,\"t\":\"apple, red\"}";
 
+const ID_OF_A: &str = "{\"id\":\"a\"}";
+
+const ID_OF_C: &str = "{\"id\":\"c\"}";
+
 // Queries over the catalogue, and the documents that they find in their order.
-const FINDS: [(&str, &[&str]); 22] = [
+const FINDS: [(&str, &[&str]); 28] = [
     ("q=-cat:x", &[B, D]),
     ("q=cat:y+OR+(-cat:x)", &[B]),
     ("q=(-cat:x)", &[B, D]),
@@ -262,6 +284,15 @@ const FINDS: [(&str, &[&str]); 22] = [
     ("q=cat%3Ax&q=cat:y", &[A, C]),
     ("q=%2Bcat:x+-price:9", &[A]),
     ("q={!cache=false}*:*", &[A, B, C, D]),
+    ("q=*:*&sort=cat+asc", &[D, A, C, B]),
+    ("q=*:*&sort=cat+desc", &[B, A, C, D]),
+    ("q=*:*&sort=price+desc,id+desc", &[C, B, D, A]),
+    ("q=*:*&sort=_docid_+desc", &[D, C, B, A]),
+    ("q=cat:x&fl=id", &[ID_OF_A, ID_OF_C]),
+    (
+        "q=cat:x&sort=price+desc&fl=id,nope&fl=id",
+        &[ID_OF_C, ID_OF_A],
+    ),
 ];
 
 // Requests that do not read, and their messages.
@@ -324,7 +355,7 @@ fn requests_are_answered(rt: HostRuntime) -> Result<(), Fail> {
         add_found(alloc, &mut want, k.saturating_add(6), k, docs)?;
     }
     for (k, (text, message)) in MESSAGES.iter().enumerate() {
-        let line = k.saturating_add(28);
+        let line = k.saturating_add(34);
         input.push_str(format!(in alloc; "1 {text}\n")?.as_str())?;
         want.push_str(format!(in alloc;
             "{{\"client\":1,\"line\":{line},\"reply\":{{\"error\":{{\"code\":400,\"msg\":\"{message}\"}},\"responseHeader\":{{\"status\":400}}}}}}\n"
@@ -332,7 +363,7 @@ fn requests_are_answered(rt: HostRuntime) -> Result<(), Fail> {
     }
     want.push_str("{\"acquired\":1,\"finished\":1,\"generation\":1,\"opened\":0}\n")?;
     want.push_str(
-        "{\"acquired\":22,\"finished\":7,\"from\":1,\"fromTicket\":0,\"generation\":2,\"opened\":6}\n",
+        "{\"acquired\":28,\"finished\":7,\"from\":1,\"fromTicket\":0,\"generation\":2,\"opened\":6}\n",
     )?;
     check(&rt, alloc, "run", input.as_bytes(), (0, "", want.as_str()))
 }

@@ -1,3 +1,4 @@
 pub mod Ordered
 pub mod Placing
+pub mod Renumbered
 pub mod Standing

@@ -1,14 +1,19 @@
 -- What holds of the order, whatever the sort and the documents.
 use Rattle.std.specs.Prelude.{◌≡◌, ◌≢◌, ℕ, true, false, ◌||◌, List, [], map, nat_eq}
 use Rattle.std.specs.Ordering.{nat_cmp}
-use Rattle.std.specs.List.{IsDistinct}
+use Rattle.std.specs.List.{IsDistinct, enumerate_from}
 use Rattle.std.specs.List.Sorted.{IsPermutation, IsStrictlySortedBy}
+use Rattle.doc_model.specs.Document.{Document}
 use Rattle.query_tree.specs.declared.sort.SortKey.{SortKey}
 use Rattle.sort_order.specs.Order.{Entry, doc_cmp, comes_before, in_order}
 
 -- the numbers of documents
 abbrev pub numbers : List Entry → List ℕ
 numbers docs = map (λ e. e.0) docs
+
+-- the documents without their numbers
+abbrev pub documents : List Entry → List Document
+documents docs = map (λ e. e.1) docs
 
 -- No document comes before itself.
 abbrev pub NoneBeforeItself : Type 0
@@ -39,3 +44,9 @@ Ascends =
 -- Documents whose numbers ascend are in order by no key.
 abbrev pub IndexOrderStays : Type 0
 IndexOrderStays = (docs : List Entry) → IsStrictlySortedBy nat_cmp (numbers docs) → in_order [] docs ≡ docs
+
+-- Of ascending numbers their order alone counts: documents stand as those of a list, numbered by their places in it.
+abbrev pub OrderOfNumbersCounts : Type 0
+OrderOfNumbersCounts =
+    (sort : List SortKey) (docs : List Entry) → IsStrictlySortedBy nat_cmp (numbers docs)
+    → documents (in_order sort docs) ≡ documents (in_order sort (enumerate_from 0 (documents docs)))

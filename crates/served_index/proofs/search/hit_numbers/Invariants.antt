@@ -1,7 +1,8 @@
 use Rattle.std.proofs.Common.{◌≡◌, take, map}
 use Rattle.std.specs.FinSet.{from_list}
 use Rattle.segment_postings.specs.Numbered.{IsNumbered}
-use Rattle.served_index.specs.Standing.{numbers_where, is_hit}
+use Rattle.search_model.specs.Answer.{is_hit}
+use Rattle.served_index.specs.Standing.{numbers_where}
 use Rattle.served_index.proofs.search.hit_numbers.Given as goal
 
 -- what the query and the filters so far match

@@ -1,6 +1,8 @@
 use Rattle.std.proofs.Common.{arith}
 use Rattle.script_form.specs.Lines.{script_lines}
-use Rattle.solr_cli.proofs.Inputs.{built_is_script, numbers_ascend, some_warming, within_lines}
+use Rattle.script_form.specs.ReadScript.{most_clients}
+use Rattle.script_form.proofs.ScriptRanges.{script_is}
+use Rattle.solr_cli.proofs.Inputs.{numbers_ascend, some_warming, within_lines}
 use Rattle.solr_cli.proofs.answer.answer.Goals as goal
 
 pub run_script-requires-clause-warming : goal.run_script-requires-clause-warming
@@ -9,14 +11,14 @@ run_script-requires-clause-warming g c κs within =
 
 pub run_script-requires-clause-lines : goal.run_script-requires-clause-lines
 run_script-requires-clause-lines g c κs within =
-    let same = (built_is_script c.in_ok-config.config (script_lines c.args.bytes.now) c.in_ok-config.script c.in_ok-config.ensures.script).1 in
+    let same = (script_is most_clients (script_lines c.args.bytes.now) c.in_ok-config.script c.in_ok-config.ensures.script).1 in
     let most = within_lines c.args.bytes.now c.in_ok-config.ensures.within in
     omega (arith, same, most)
 
 pub run_script-requires-clause-numbers : goal.run_script-requires-clause-numbers
 run_script-requires-clause-numbers g c κs within =
-    numbers_ascend c.in_ok-config.script (built_is_script c.in_ok-config.config (script_lines c.args.bytes.now) c.in_ok-config.script c.in_ok-config.ensures.script).0
+    numbers_ascend c.in_ok-config.script (script_is most_clients (script_lines c.args.bytes.now) c.in_ok-config.script c.in_ok-config.ensures.script).0
 
 pub run_script-requires-clause-clients : goal.run_script-requires-clause-clients
 run_script-requires-clause-clients g c κs within =
-    (built_is_script c.in_ok-config.config (script_lines c.args.bytes.now) c.in_ok-config.script c.in_ok-config.ensures.script).0.asked
+    (script_is most_clients (script_lines c.args.bytes.now) c.in_ok-config.script c.in_ok-config.ensures.script).0.asked

@@ -7,8 +7,8 @@ use Rattle.solr_cli.proofs.answer.read_input.Goals as goal
 rest_within : (bytes : List ℕ) (begin most : ℕ) → length bytes ≤ most → length (take (length bytes - begin) (drop begin bytes)) ≤ most
 rest_within bytes begin most h = simp (length-take, length-drop) (omega (arith, h))
 
-pub read_built-requires : goal.read_built-requires
-read_built-requires c =
+pub read_script-requires : goal.read_script-requires
+read_script-requires c =
     let within = within_input c.args.bytes.now (sym c.too_large.ensures ∙ c.if-too_large.false) in
     let rest = rest_within c.args.bytes.now c.in-Ok.read.1 most_input within in
     omega (arith, rest)
