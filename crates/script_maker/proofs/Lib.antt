@@ -1,0 +1,7 @@
+pub mod PlainTexts
+pub mod Split
+pub mod PlainLines
+pub mod ConfigReads
+pub mod Turns
+pub mod MadeReads
+pub mod Joins

@@ -1,0 +1,5 @@
+pub mod MadeConfig
+pub mod Written
+pub mod Made
+pub mod Growing
+pub mod Laws
