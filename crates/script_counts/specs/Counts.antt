@@ -8,7 +8,7 @@ use Rattle.script_form.specs.ReadScript.{most_clients}
 use Rattle.script_form.specs.declared.script.Line.{Line}
 use Rattle.script_form.specs.declared.script.What.{What}
 use Rattle.script_form.specs.declared.script.What.TheVariants as what
-use Rattle.script_counts.specs.declared.counts.Counts.{Counts}
+use Rattle.script_counts.specs.declared.counting.Counts.{Counts}
 
 -- the client whose request it is, where it is one
 abbrev pub client_of : What → Option ℕ
@@ -37,14 +37,10 @@ is_of client line = option_map_or (λ c. c == client) (client_of line.what) fals
 abbrev pub asks : List Line → ℕ → Bool
 asks ls client = list_any (is_of client) ls
 
--- the numbers that clients have
-abbrev pub client_numbers : List ℕ
-client_numbers = range_with_len 1 most_clients
-
--- the clients that have a request, all lines, one phase more than the lines that end one, and the requests
+-- of the clients that there are those that have a request, all lines, one phase more than the lines that end one, and the requests
 abbrev pub counts_of : List Line → Counts
 counts_of ls = record {
-  clients = count_by (asks ls) client_numbers;
+  clients = count_by (asks ls) (range_with_len 1 most_clients);
   lines = length ls;
   phases = count_by is_phase_end ls + 1;
   requests = count_by is_request ls;
@@ -62,6 +58,10 @@ counts_data c =
     member (codes "phases") (whole c.phases) (
     member (codes "requests") (whole c.requests) no_members))))
 
--- the line of counts
+-- the line that tells them
+unfoldable pub counts_line : Counts → List ℕ
+counts_line c = compact_text (counts_data c) ++ 10 ∷ []
+
+-- the line that `check` writes of a script
 abbrev pub check_text : List Line → List ℕ
-check_text ls = compact_text (counts_data (counts_of ls)) ++ 10 ∷ []
+check_text ls = counts_line (counts_of ls)

@@ -1,6 +1,6 @@
 //! What a script has in all: its clients, lines, phases and requests, and the line that tells them.
 #![tactic(auto)]
 
-mod counts;
+mod counting;
 
-pub use counts::{Counts, check_text, counts_of};
+pub use counting::{Counts, check_text, counts_of};

@@ -1,5 +1,5 @@
 -- Each made text reads, and is within the limits.
-use Rattle.std.proofs.Common.{◌≡◌, ℕ, ◌+◌, ◌*◌, ◌<◌, ◌≤◌, Bool, true, false, cond, nat_lt, ◌||◌, List, [], ◌∷◌, ◌++◌, length, map, decimal, codes, Ok, Err, refl, ap, ◌∙◌, arith, append_assoc, length-append}
+use Rattle.std.proofs.Common.{◌≡◌, ℕ, ◌+◌, ◌*◌, ◌≤◌, true, false, cond, nat_lt, List, [], ◌∷◌, ◌++◌, length, map, codes, Err, refl, ap, ◌∙◌, arith, length-append}
 use Rattle.std.specs.List.{All, after_first, before_first, join_with_byte, list_any}
 use Rattle.std.specs.Str.Lines.{lines}
 use Rattle.std.proofs.lemmas.Bool.{le-ltb, or_from}
@@ -11,8 +11,8 @@ use Rattle.script_form.specs.ReadScript.{most_clients, script_of}
 use Rattle.script_form.specs.declared.script.What.{What}
 use Rattle.script_maker.specs.Laws.{IsCount, MadeConfigReads, MadeIsWithinLimits, MadeScriptReads}
 use Rattle.script_maker.specs.Made.{made, made_head, made_lines}
-use Rattle.script_maker.specs.MadeConfig.{config_line, made_config}
-use Rattle.script_maker.specs.Written.{IsPlainLine, numbered, script_text, written}
+use Rattle.script_maker.specs.MadeConfig.{config_line}
+use Rattle.script_maker.specs.Written.{IsPlainLine, script_text, written}
 use Rattle.script_maker.proofs.ConfigReads.{config_reads}
 use Rattle.script_maker.proofs.PlainLines.{lines_written, script_written}
 use Rattle.script_maker.proofs.Split.{line_in_front}

@@ -1,19 +1,17 @@
 -- What a plain line reads to.
-use Rattle.std.proofs.Common.{◌≡◌, ℕ, ◌+◌, ◌^◌, ◌<◌, ◌≤◌, ◌==◌, Bool, true, false, cond, List, [], ◌∷◌, ◌++◌, length, map, get_or, decimal, codes, Some, None, Result, Ok, Err, refl, ap, ◌∙◌, arith}
+use Rattle.std.proofs.Common.{◌≡◌, ℕ, ◌+◌, ◌^◌, ◌<◌, ◌==◌, true, false, cond, List, [], ◌∷◌, ◌++◌, length, map, get_or, decimal, codes, None, Result, Ok, Err, refl, ap, ◌∙◌, arith}
 use Rattle.std.specs.Char.{is_ascii_digit}
 use Rattle.std.specs.List.{All, before_first, after_first}
 use Rattle.std.specs.Str.{all_ascii_digits}
 use Rattle.std.specs.Str.Lines.{lines}
 use Rattle.std.specs.Str.Parse.{digits_value}
-use Rattle.std.proofs.lemmas.Bool.{and_from, and_left, and_parts, cond-true, cond-false, eq-eqb, le-leb, lt-ltb, ne_eqb, or_from, or_right}
+use Rattle.std.proofs.lemmas.Bool.{and_left, and_parts, cond-false, ne_eqb, or_from}
 use Rattle.std.proofs.lemmas.Bool.Decides.{nat_tests}
 use Rattle.std.proofs.lemmas.Fmt.{decimal_is_IsNumeral, decimal_nonempty, first_decimal}
 use Rattle.std.proofs.lemmas.List.Elements.{All-head, All-tail}
 use Rattle.field_schema.specs.Bytes.{bytes_eq}
-use Rattle.script_form.specs.Decimals.{are_digits, decimal_within, is_decimal}
 use Rattle.script_form.specs.ReadScript.{body_part, client_of, client_part, front_from, front_of, in_front, is_nothing, is_space, most_clients, request_of, script_of, verb_part, what_in, what_of, whole_script}
 use Rattle.script_form.specs.Results.{result_then}
-use Rattle.script_form.specs.declared.script.Front.{Front}
 use Rattle.script_form.specs.declared.script.LineName.{LineName}
 use Rattle.script_form.specs.declared.script.LineName.TheVariants as name
 use Rattle.script_form.specs.declared.script.What.{What}
@@ -21,7 +19,7 @@ use Rattle.script_form.specs.declared.script.What.TheVariants as what
 use Rattle.script_form.proofs.Markers.{after_here, after_later, before_here, before_later}
 use Rattle.script_form.proofs.Scripts.{what_of_text}
 use Rattle.script_maker.specs.Laws.{PlainLinesReadBack}
-use Rattle.script_maker.specs.Written.{IsBody, IsClient, IsPlainLine, commit_parameters, is_plain, numbered, request_line, script_text, text_of, written}
+use Rattle.script_maker.specs.Written.{IsClient, IsPlainLine, is_plain, numbered, script_text, written}
 use Rattle.script_maker.proofs.PlainTexts.{decimal_digits, plain_append, plain_decimal, plain_utf8}
 use Rattle.script_maker.proofs.Split.{IsPlain, line_in_front}
 

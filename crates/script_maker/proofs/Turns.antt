@@ -1,14 +1,13 @@
 -- What the turns ask for is plain, and short.
-use Rattle.std.proofs.Common.{◌≡◌, ℕ, zero, suc, ◌+◌, ◌*◌, ◌/◌, ◌%◌, ◌^◌, ◌<◌, ◌≤◌, ◌==◌, Bool, true, false, cond, List, [], ◌∷◌, ◌++◌, length, decimal, codes, refl, ap, ◌∙◌, arith, length-append}
+use Rattle.std.proofs.Common.{ℕ, zero, suc, ◌+◌, ◌*◌, ◌%◌, ◌<◌, ◌≤◌, ◌==◌, Bool, true, false, cond, List, [], ◌∷◌, ◌++◌, length, decimal, codes, refl, arith, length-append}
 use Rattle.std.specs.Fmt.{digits}
 use Rattle.std.specs.List.{All}
 use Rattle.std.proofs.lemmas.Fmt.{length-decimal-le}
 use Rattle.std.proofs.lemmas.List.Elements.{All-append, All-cons, All-nil}
-use Rattle.script_form.specs.ReadScript.{most_clients}
 use Rattle.script_form.specs.declared.script.What.{What}
 use Rattle.script_form.specs.declared.script.What.TheVariants as what
-use Rattle.script_maker.specs.Made.{add_body, add_line, client_at, commit_lines, drawn, last_lines, made_lines, number_after, number_after_turn, number_before, query_line, query_lines, turn_behind, turn_lines, turns}
-use Rattle.script_maker.specs.Written.{IsClient, IsPlainLine, is_plain, request_line, written}
+use Rattle.script_maker.specs.Made.{add_line, client_at, commit_lines, drawn, last_lines, made_lines, number_after, number_after_turn, number_before, query_line, query_lines, turn_behind, turn_lines, turns}
+use Rattle.script_maker.specs.Written.{IsClient, IsPlainLine, written}
 use Rattle.script_maker.specs.declared.turn.Turn.{Turn}
 use Rattle.script_maker.proofs.PlainTexts.{plain_append, plain_decimal}
 
@@ -65,9 +64,9 @@ add_is t is = record {
     (
       omega arith,
       plain_append (decimal t.cat) _ (plain_decimal t.cat (omega (arith, is.cat)))
-      (plain_append (decimal t.index) _ (plain_decimal t.index (omega (arith, is.index)))
-      (plain_append (decimal t.price) _ (plain_decimal t.price (omega (arith, is.price)))
-      (plain_append (decimal t.word) _ (plain_decimal t.word (omega (arith, is.word))) refl))),
+          (plain_append (decimal t.index) _ (plain_decimal t.index (omega (arith, is.index)))
+          (plain_append (decimal t.price) _ (plain_decimal t.price (omega (arith, is.price)))
+          (plain_append (decimal t.word) _ (plain_decimal t.word (omega (arith, is.word))) refl))),
     ),
   );
   short =
@@ -86,8 +85,8 @@ query_is t is = record {
     (
       omega arith,
       plain_append (decimal t.word) _ (plain_decimal t.word (omega (arith, is.word)))
-      (plain_append (decimal t.cat) _ (plain_decimal t.cat (omega (arith, is.cat)))
-      (plain_append (decimal t.price) _ (plain_decimal t.price (omega (arith, is.price))) refl)),
+          (plain_append (decimal t.cat) _ (plain_decimal t.cat (omega (arith, is.cat)))
+          (plain_append (decimal t.price) _ (plain_decimal t.price (omega (arith, is.price))) refl)),
     ),
   );
   short =

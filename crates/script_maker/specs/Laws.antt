@@ -1,5 +1,5 @@
 -- What holds of scripts that are written, and of those that are made.
-use Rattle.std.specs.Prelude.{◌≡◌, ℕ, ◌≤◌, List, map, Ok, false}
+use Rattle.std.specs.Prelude.{◌≡◌, ℕ, List, Ok, false}
 use Rattle.std.specs.List.{All}
 use Rattle.std.specs.Str.Lines.{lines}
 use Rattle.script_form.specs.Lines.{script_lines, too_large}

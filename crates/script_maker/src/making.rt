@@ -47,7 +47,12 @@ fn put_add(out: &mut String, turn: &Turn) -> Result<(), NoMemory>
     ensures { OnOk result (Grows (string_bytes out.old) (string_bytes out.new) (script_text (add_line turn.now ∷ []))) }
 {
     let client = client_of(turn);
-    let Turn { index, cat, price, word } = *turn;
+    let Turn {
+        index,
+        cat,
+        price,
+        word,
+    } = *turn;
     write!(
         out,
         "{client} add {{\"cat\":\"c{cat}\",\"id\":\"d{index}\",\"price\":{price},\"t\":\"w{word} item\"}}\n"
@@ -60,7 +65,12 @@ fn put_query(out: &mut String, turn: &Turn) -> Result<(), NoMemory>
     ensures { OnOk result (Grows (string_bytes out.old) (string_bytes out.new) (script_text (query_line turn.now ∷ []))) }
 {
     let client = client_of(turn);
-    let Turn { cat, price, word, .. } = *turn;
+    let Turn {
+        cat,
+        price,
+        word,
+        ..
+    } = *turn;
     write!(
         out,
         "{client} query q=t:w{word}&fq=cat:c{cat}&fq=price:[*+TO+{price}]&sort=price+asc&fl=id,price\n"

@@ -1,6 +1,5 @@
-use Rattle.std.proofs.Common.{◌≡◌, ◌+◌, string_bytes, ap, sym, ◌∙◌, subst, arith}
-use Rattle.script_maker.specs.Growing.{Grows}
-use Rattle.script_maker.specs.Made.{number_after_turn, number_before, turn_behind, turn_lines}
+use Rattle.std.proofs.Common.{string_bytes, ap, sym, ◌∙◌, arith}
+use Rattle.script_maker.specs.Made.{number_after_turn, turn_behind, turn_lines}
 use Rattle.script_maker.specs.Written.{script_text}
 use Rattle.script_maker.proofs.Joins.{no_number, no_turn, number_more, one_more, piece_is}
 use Rattle.script_maker.proofs.making.put_turns.Goals as goal

@@ -1,9 +1,13 @@
-ghost use Rattle.std.specs.Prelude.{◌≡◌, IfOk, count_by};
-ghost use Rattle.script_counts.specs.Counts.{asks as asks_of, check_text as text_of_check, client_of as client_of_what, client_numbers, counts_of as counts_of_lines, ends_phase as ends_phase_of, is_phase_end, is_request};
+ghost use Rattle.std.specs.Prelude.{◌≡◌, ◌+◌, ◌<◌, ◌^◌, IfOk, count_by};
+ghost use Rattle.std.specs.List.{range_with_len};
+ghost use Rattle.script_counts.specs.Counts.{asks as asks_of, check_text as text_of_check, client_of as client_of_what, counts_line, counts_of as counts_of_lines, ends_phase as ends_phase_of, is_phase_end, is_request};
 
 use field_schema::{NoMemory, Text};
 use script_form::{Line, Script, What};
 use std::alloc::Global;
+
+// The clients are numbered from 1 to this.
+const CLIENTS: u32 = 12;
 
 /// What a script has in all.
 #[derive(Clone, Copy, Debug, PartialEq, Eq)]
@@ -22,12 +26,11 @@ fn client_of(what: &What) -> Option<u32>
     ensures { result ≡ client_of_what what.now }
 {
     match what {
-        What::Add { client, .. } => Some(*client),
-        What::Delete { client, .. } => Some(*client),
-        What::Query { client, .. } => Some(*client),
-        What::Commit { client, .. } => Some(*client),
-        What::PhaseEnd => None,
-        What::Nothing => None,
+        What::Add { client, .. }
+        | What::Delete { client, .. }
+        | What::Query { client, .. }
+        | What::Commit { client, .. } => Some(*client),
+        What::PhaseEnd | What::Nothing => None,
     }
 }
 
@@ -35,26 +38,24 @@ fn client_of(what: &What) -> Option<u32>
 fn ends_phase(what: &What) -> bool
     ensures { result ≡ ends_phase_of what.now }
 {
-    match what {
-        What::PhaseEnd => true,
-        _ => false,
-    }
+    matches!(what, What::PhaseEnd)
 }
 
 // Whether a client has a request.
 fn asks(lines: &[Line], client: u32) -> bool
     ensures { result ≡ asks_of lines.now client }
 {
-    lines
-        .iter()
-        .any(|line| client_of(&line.what).map_or(false, |c| c == client))
+    lines.iter().any(|line| client_of(&line.what).map_or(false, |c| c == client))
 }
 
-// How many clients have a request.
-fn client_count(lines: &[Line]) -> usize
-    ensures { result ≡ count_by (asks_of lines.now) client_numbers }
+// How many of so many clients have a request.
+fn client_count(lines: &[Line], clients: u32) -> usize
+    requires { clients + 1 < 2 ^ 32 }
+    ensures { result ≡ count_by (asks_of lines.now) (range_with_len 1 clients) }
 {
-    (1..=12).filter(|client| asks(lines, *client)).count()
+    (1..clients + 1)
+        .filter(|client| asks(lines, *client))
+        .count()
 }
 
 // How many lines end a phase.
@@ -80,11 +81,29 @@ pub fn counts_of(script: &Script) -> Counts
 {
     let lines = script.get();
     Counts {
-        clients: client_count(lines),
+        clients: client_count(lines, CLIENTS),
         lines: lines.len(),
         phases: phase_ends(lines) + 1,
         requests: request_count(lines),
     }
+}
+
+// The line that tells these counts.
+fn line_of(alloc: Global, counts: Counts) -> Result<Text, NoMemory>
+    ensures { IfOk result (λ t. t ≡ counts_line counts) }
+{
+    let Counts {
+        clients,
+        lines,
+        phases,
+        requests,
+    } = counts;
+    let mut out = String::new(alloc);
+    write!(
+        out,
+        "{{\"clients\":{clients},\"lines\":{lines},\"phases\":{phases},\"requests\":{requests}}}\n"
+    )?;
+    Ok(Text::new(out))
 }
 
 /// The line that tells what a script has in all: a compact JSON object with `clients`, `lines`, `phases` and
@@ -92,16 +111,5 @@ pub fn counts_of(script: &Script) -> Counts
 pub fn check_text(alloc: Global, script: &Script) -> Result<Text, NoMemory>
     ensures { IfOk result (λ t. t ≡ text_of_check script.now) }
 {
-    let Counts {
-        clients,
-        lines,
-        phases,
-        requests,
-    } = counts_of(script);
-    let mut out = String::new(alloc);
-    write!(
-        out,
-        "{{\"clients\":{clients},\"lines\":{lines},\"phases\":{phases},\"requests\":{requests}}}\n"
-    )?;
-    Ok(Text::new(out))
+    line_of(alloc, counts_of(script))
 }
