@@ -6,7 +6,8 @@ use std::process::Abort;
 use std::test::Fail;
 
 // The script of one document.
-const ONE: &str = r#"{"df":"t","filterCache":{"autowarmCount":16},"queryResultCache":{"autowarmCount":16},"schema":{"fields":[{"name":"id","type":"string"},{"name":"cat","type":"string"},{"name":"price","type":"plong"},{"name":"t","type":"text_general"}],"uniqueKey":"id"}}
+const ONE: &str =
+    r#"{"df":"t","filterCache":{"autowarmCount":16},"queryResultCache":{"autowarmCount":16},"schema":{"fields":[{"name":"id","type":"string"},{"name":"cat","type":"string"},{"name":"price","type":"plong"},{"name":"t","type":"text_general"}],"uniqueKey":"id"}}
 %%
 1 add {"cat":"c3","id":"d0","price":758,"t":"w13 item"}
 ---
@@ -35,16 +36,17 @@ const SCRIPTS: [(&str, usize, usize, usize, usize); 8] = [
     ("---\n---\n---\n", 0, 3, 4, 0),
 ];
 
-// Numbers of documents, and what their scripts have: with n documents there are n adds, a query for each ten, a commit
-// and the end of a phase for each hundred, and three lines more, of which two are requests.
-const MADE: [(u32, usize, usize, usize, usize); 7] = [
-    (1, 1, 4, 2, 3),
-    (9, 1, 12, 2, 11),
-    (10, 1, 14, 2, 13),
-    (100, 1, 115, 3, 113),
-    (101, 2, 116, 3, 114),
-    (1199, 12, 1343, 13, 1331),
-    (20_000, 12, 22_403, 202, 22_202),
+// Numbers of documents, the bytes of their texts as another generator has them, and what their scripts have: with n
+// documents there are n adds, a query for each ten, a commit and the end of a phase for each hundred, and three lines
+// more, of which two are requests.
+const MADE: [(u32, usize, usize, usize, usize, usize); 7] = [
+    (1, 346, 1, 4, 2, 3),
+    (9, 790, 1, 12, 2, 11),
+    (10, 918, 1, 14, 2, 13),
+    (100, 6664, 1, 115, 3, 113),
+    (101, 6719, 2, 116, 3, 114),
+    (1199, 78_312, 12, 1343, 13, 1331),
+    (20_000, 1_329_663, 12, 22_403, 202, 22_202),
 ];
 
 // The line of these counts.
@@ -76,7 +78,12 @@ fn check_counts(
 fn scripts_have_counts(rt: HostRuntime) -> Result<(), Fail> {
     let alloc = rt.alloc();
     for (script, clients, lines, phases, requests) in SCRIPTS {
-        check_counts(&rt, alloc, script.as_bytes(), (clients, lines, phases, requests))?;
+        check_counts(
+            &rt,
+            alloc,
+            script.as_bytes(),
+            (clients, lines, phases, requests),
+        )?;
     }
     let read = read_script(alloc, b"1 add x\n---\n").map_err(|_| "a script")?;
     let found = check_text(alloc, &read)?;
@@ -92,13 +99,19 @@ fn made_scripts_have_counts(rt: HostRuntime) -> Result<(), Fail> {
     assert_eq!(rt; one.get(), ONE);
     let ten = make(alloc, 10)?;
     assert!(rt; ten.get().ends_with(TEN));
-    for (n, clients, lines, phases, requests) in MADE {
+    for (n, bytes, clients, lines, phases, requests) in MADE {
         assert!(rt; n >= 1 && n <= 20_000);
         let made = make(alloc, n)?;
         let input = made.get().as_bytes();
+        assert_eq!(rt; input.len(), bytes);
         assert!(rt; !too_large(input));
         let (_, begin) = read_config(alloc, input).map_err(|_| "a configuration")?;
-        check_counts(&rt, alloc, &input[begin..], (clients, lines, phases, requests))?;
+        check_counts(
+            &rt,
+            alloc,
+            &input[begin..],
+            (clients, lines, phases, requests),
+        )?;
     }
     Ok(())
 }

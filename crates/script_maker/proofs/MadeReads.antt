@@ -74,7 +74,7 @@ not_many n h =
 lines_fit : (n : ℕ) → IsCount n → lines_too_large (script_lines (made n)) ≡ false
 lines_fit n h = ap lines_too_large (script_lines_made n h) ∙ or_from _ _ (not_many n h) (none_long (made_lines n) (made_are n h.1).each)
 
-text_fits : (n : ℕ) → IsCount n → length (made n) ≤ most_input
+pub text_fits : (n : ℕ) → IsCount n → length (made n) ≤ most_input
 unfolding made
 text_fits n h =
     let are : AreShort (4 * n + 3) (made_lines n) = made_are n h.1 in
