@@ -1,10 +1,9 @@
--- A text whose lines are plain splits into them.
+-- A plain line in front of a text is its first line.
 use Rattle.std.proofs.Common.{◌≡◌, ℕ, ◌<◌, ◌==◌, Bool, true, List, [], ◌∷◌, ◌++◌, length, append_assoc, refl, ap, ◌∙◌, arith}
-use Rattle.std.specs.List.{All, slice_split}
+use Rattle.std.specs.List.{slice_split}
 use Rattle.std.specs.Str.Lines.{lines, lines_of_parts, strip_carriage_return}
-use Rattle.std.proofs.lemmas.List.Elements.{All-head, All-tail}
 use Rattle.std.proofs.lemmas.List.Splits.{length-slice_split, slice_split_at}
-use Rattle.script_maker.specs.Written.{is_plain, text_of}
+use Rattle.script_maker.specs.Written.{is_plain}
 use Rattle.script_maker.proofs.PlainTexts.{plain_kept, plain_no_feed}
 
 abbrev is_feed : ℕ → Bool
@@ -28,7 +27,3 @@ line_in_front line rest plain =
     ∙ ap lines_of_parts (slice_split_at is_feed line 10 rest (plain_no_feed line plain) refl)
     ∙ parts_more line (slice_split is_feed rest) (split_some rest)
     ∙ ap (λ x. x ∷ lines rest) (plain_kept line plain)
-
-pub lines_back : (ls : List (List ℕ)) → All IsPlain ls → lines (text_of ls) ≡ ls
-lines_back [] h = refl
-lines_back (l ∷ ls) h = line_in_front l (text_of ls) (All-head IsPlain l ls h) ∙ ap (λ xs. l ∷ xs) (lines_back ls (All-tail IsPlain l ls h))

@@ -25,11 +25,7 @@ written (what.Commit client body) = decimal client ++ 32 ∷ (codes "commit" ++ 
 written what.PhaseEnd = codes "---"
 written what.Nothing = []
 
--- each line and a line feed
-abbrev pub text_of : List (List ℕ) → List ℕ
-text_of ls = flat_map (λ line. line ++ 10 ∷ []) ls
-
--- the text of what the lines of a script ask for
+-- the text of a script that asks for these: each line and a line feed
 abbrev pub script_text : List What → List ℕ
 script_text asked = flat_map (λ w. written w ++ 10 ∷ []) asked
 

@@ -1,9 +1,7 @@
-ghost use Rattle.std.specs.Prelude.{◌≡◌, ◌∷◌, ◌++◌, [], IfOk, OnOk, string_bytes};
-ghost use Rattle.script_form.specs.declared.script.What.TheVariants as what;
-ghost use Rattle.script_maker.specs.Growing.{Grows};
+ghost use Rattle.std.specs.Prelude.{◌≡◌, ◌∷◌, [], IfOk, OnOk};
+ghost use Rattle.script_maker.specs.Growing.{Gains, GainsLines};
 ghost use Rattle.script_maker.specs.Laws.{IsCount};
 ghost use Rattle.script_maker.specs.Made.{add_line, client_at, commit_lines, last_lines, made, made_head, query_line, query_lines, turn_lines, turns};
-ghost use Rattle.script_maker.specs.Written.{script_text};
 
 use crate::turn::{Turn, turn_behind};
 use field_schema::{NoMemory, Text};
@@ -11,7 +9,7 @@ use std::alloc::Global;
 
 // Writes a piece.
 fn put(out: &mut String, piece: &str) -> Result<(), NoMemory>
-    ensures { OnOk result (Grows (string_bytes out.old) (string_bytes out.new) piece.now) }
+    ensures { OnOk result (Gains out.old out.new piece.now) }
 {
     out.push_str(piece)?;
     Ok(())
@@ -19,20 +17,21 @@ fn put(out: &mut String, piece: &str) -> Result<(), NoMemory>
 
 // Writes the configuration and the line behind it.
 fn put_head(out: &mut String) -> Result<(), NoMemory>
-    ensures { OnOk result (Grows (string_bytes out.old) (string_bytes out.new) made_head) }
+    ensures { OnOk result (Gains out.old out.new made_head) }
 {
     put(
         out,
-        "{\"df\":\"t\",\"filterCache\":{\"autowarmCount\":16},\"queryResultCache\":{\"autowarmCount\":16},",
+        r#"{"df":"t","filterCache":{"autowarmCount":16},"queryResultCache":{"autowarmCount":16},"#,
     )?;
     put(
         out,
-        "\"schema\":{\"fields\":[{\"name\":\"id\",\"type\":\"string\"},{\"name\":\"cat\",\"type\":\"string\"},",
+        r#""schema":{"fields":[{"name":"id","type":"string"},{"name":"cat","type":"string"},"#,
     )?;
     put(
         out,
-        "{\"name\":\"price\",\"type\":\"plong\"},{\"name\":\"t\",\"type\":\"text_general\"}],\"uniqueKey\":\"id\"}}\n%%\n",
-    )
+        r#"{"name":"price","type":"plong"},{"name":"t","type":"text_general"}],"uniqueKey":"id"}}"#,
+    )?;
+    put(out, "\n%%\n")
 }
 
 // The client of a turn.
@@ -44,7 +43,7 @@ fn client_of(turn: &Turn) -> u32
 
 // Writes the line of a turn's document.
 fn put_add(out: &mut String, turn: &Turn) -> Result<(), NoMemory>
-    ensures { OnOk result (Grows (string_bytes out.old) (string_bytes out.new) (script_text (add_line turn.now ∷ []))) }
+    ensures { OnOk result (GainsLines out.old out.new (add_line turn.now ∷ [])) }
 {
     let client = client_of(turn);
     let Turn {
@@ -62,7 +61,7 @@ fn put_add(out: &mut String, turn: &Turn) -> Result<(), NoMemory>
 
 // Writes the line of a turn's query.
 fn put_query(out: &mut String, turn: &Turn) -> Result<(), NoMemory>
-    ensures { OnOk result (Grows (string_bytes out.old) (string_bytes out.new) (script_text (query_line turn.now ∷ []))) }
+    ensures { OnOk result (GainsLines out.old out.new (query_line turn.now ∷ [])) }
 {
     let client = client_of(turn);
     let Turn {
@@ -80,7 +79,7 @@ fn put_query(out: &mut String, turn: &Turn) -> Result<(), NoMemory>
 
 // Writes it where the turn has a query.
 fn put_asked(out: &mut String, turn: &Turn) -> Result<(), NoMemory>
-    ensures { OnOk result (Grows (string_bytes out.old) (string_bytes out.new) (script_text (query_lines turn.now))) }
+    ensures { OnOk result (GainsLines out.old out.new (query_lines turn.now)) }
 {
     if turn.index % 10 == 9 {
         put_query(out, turn)
@@ -91,7 +90,7 @@ fn put_asked(out: &mut String, turn: &Turn) -> Result<(), NoMemory>
 
 // Writes the lines of a turn's commit, where the turn has one.
 fn put_commit(out: &mut String, turn: &Turn) -> Result<(), NoMemory>
-    ensures { OnOk result (Grows (string_bytes out.old) (string_bytes out.new) (script_text (commit_lines turn.now))) }
+    ensures { OnOk result (GainsLines out.old out.new (commit_lines turn.now)) }
 {
     if turn.index % 100 == 99 {
         let client = client_of(turn);
@@ -102,7 +101,7 @@ fn put_commit(out: &mut String, turn: &Turn) -> Result<(), NoMemory>
 
 // Writes the lines of a turn.
 fn put_turn(out: &mut String, turn: &Turn) -> Result<(), NoMemory>
-    ensures { OnOk result (Grows (string_bytes out.old) (string_bytes out.new) (script_text (turn_lines turn.now))) }
+    ensures { OnOk result (GainsLines out.old out.new (turn_lines turn.now)) }
 {
     put_add(out, turn)?;
     put_asked(out, turn)?;
@@ -112,7 +111,7 @@ fn put_turn(out: &mut String, turn: &Turn) -> Result<(), NoMemory>
 // Writes the lines of all turns.
 fn put_turns(out: &mut String, n: u32) -> Result<(), NoMemory>
     requires { IsCount n }
-    ensures { OnOk result (Grows (string_bytes out.old) (string_bytes out.new) (script_text (turns n n))) }
+    ensures { OnOk result (GainsLines out.old out.new (turns n n)) }
 {
     let mut x = u64::from(n);
     for index in 0..n {
@@ -125,7 +124,7 @@ fn put_turns(out: &mut String, n: u32) -> Result<(), NoMemory>
 
 // Writes the last lines.
 fn put_last(out: &mut String) -> Result<(), NoMemory>
-    ensures { OnOk result (Grows (string_bytes out.old) (string_bytes out.new) (script_text last_lines)) }
+    ensures { OnOk result (GainsLines out.old out.new last_lines) }
 {
     put(out, "---\n1 commit\n1 query q=*:*&rows=0\n")
 }
