@@ -1,8 +1,7 @@
 -- The order of keys, and what a binary search by it finds.
-use Rattle.std.proofs.Common.{◌≡◌, ℕ, zero, suc, ◌+◌, ◌<◌, ◌≤◌, Bool, true, false, cond, not, ◌&&◌, List, [], ◌∷◌, length, get_or, take, drop, filter, refl, sym, ap, ◌∙◌, arith, ltb, length-drop}
-use Rattle.std.proofs.lemmas.List.{get_or-drop}
-use Rattle.std.specs.List.Sorted.{IsSortedBy, IsSortedByKey, IsPartitionedBy, IsPartitionPoint}
-use Rattle.std.specs.Ordering.{is_lt, is_le, is_eq, ordering_reverse, ordering_index}
+use Rattle.std.proofs.Common.{◌≡◌, ℕ, zero, suc, ◌<◌, ◌≤◌, Bool, true, false, cond, not, ◌&&◌, List, [], ◌∷◌, length, get_or, take, drop, filter, refl, sym, ap, ◌∙◌, arith, ltb}
+use Rattle.std.specs.List.Sorted.{IsSortedByKey, IsPartitionedBy, IsPartitionPoint}
+use Rattle.std.specs.Ordering.{is_lt, is_eq, ordering_reverse, ordering_index}
 use Rattle.std.specs.declared.cmp.Ordering.{Ordering}
 use Rattle.std.specs.declared.cmp.Ordering.TheVariants.{Less, Equal, Greater}
 use Rattle.std.proofs.lemmas.List.Sorted.{searchable_from_sorted, IsPartitionedBy-ltb}
@@ -22,34 +21,16 @@ tied Greater = refl
 pub ties_are_equal : (k x : Key) → (not (is_lt (key_cmp k x)) && not (is_lt (key_cmp x k))) ≡ key_eq k x
 ties_are_equal k x = ap (λ r. not (is_lt (key_cmp k x)) && not (is_lt r)) (turned x k) ∙ tied (key_cmp k x) ∙ sym (key_cmp_ties k x)
 
-between : (r : Ordering) → (not (is_lt r) && is_le r) ≡ is_eq (ordering_reverse r)
-between Less = refl
-between Equal = refl
-between Greater = refl
-
--- a key that stands neither before k nor after it
-pub at_or_after_and_before : (k x : Key) → (not (is_lt (key_cmp x k)) && is_le (key_cmp x k)) ≡ key_eq k x
-at_or_after_and_before k x = between (key_cmp x k) ∙ ap is_eq (sym (turned k x)) ∙ sym (key_cmp_ties k x)
-
 lt_index : (r : Ordering) → ltb (ordering_index r) 1 ≡ is_lt r
 lt_index Less = refl
 lt_index Equal = refl
 lt_index Greater = refl
-
-le_index : (r : Ordering) → ltb (ordering_index r) 2 ≡ is_le r
-le_index Less = refl
-le_index Equal = refl
-le_index Greater = refl
 
 module _ {X : Type 0} (key : X → Key) (xs : List X) (k : Key) (sorted : IsSortedByKey key key_cmp xs) where
   -- those before k stand first
   pub parted_before : IsPartitionedBy (λ x. is_lt (key_cmp (key x) k)) xs
   parted_before i j d i≤j j<n before =
       sym (lt_index _) ∙ IsPartitionedBy-ltb (λ y. ordering_index (key_cmp (key y) k)) xs 1 (searchable_from_sorted key_cmp_total key xs k sorted) i j d i≤j j<n (lt_index _ ∙ before)
-
-  pub parted_up_to : IsPartitionedBy (λ x. is_le (key_cmp (key x) k)) xs
-  parted_up_to i j d i≤j j<n before =
-      sym (le_index _) ∙ IsPartitionedBy-ltb (λ y. ordering_index (key_cmp (key y) k)) xs 2 (searchable_from_sorted key_cmp_total key xs k sorted) i j d i≤j j<n (le_index _ ∙ before)
 
 module _ {X : Type 0} (p : X → Bool) where
   none_passes : (xs : List X) → ((i : ℕ) (d : X) → i < length xs → p (get_or xs i d) ≡ false) → filter p xs ≡ []
@@ -100,10 +81,3 @@ filter_twice p q (x ∷ xs) =
       | true ↦ ap (λ ys. cond (q x) (x ∷ ys) ys) (filter_twice p q xs)
       | false ↦ filter_twice p q xs
     ]
-
--- what is left of a sorted list is sorted
-pub sorted_drop : {X : Type 0} (lt : X → X → Bool) (xs : List X) (i : ℕ) → IsSortedBy lt xs → IsSortedBy lt (drop i xs)
-sorted_drop lt xs i up k d _ l =
-    let next : get_or (drop i xs) (k + 1) d ≡ get_or xs (i + k + 1) d = get_or-drop i xs (k + 1) d ∙ ap (λ n. get_or xs n d) (omega arith) in
-    let this : get_or (drop i xs) k d ≡ get_or xs (i + k) d = get_or-drop i xs k d in
-    (λ j. lt (next j) (this j)) ∙ up (i + k) d (omega arith) (omega (arith, length-drop i xs, l))

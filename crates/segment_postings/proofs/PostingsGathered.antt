@@ -40,9 +40,6 @@ put_new (p ∷ []) doc places h =
     ap (λ b. cond b (record { doc = p.doc; places = p.places ++ places } ∷ []) (p ∷ record { doc = doc; places = places } ∷ [])) (ne_eqb p.doc doc (λ e. omega arith))
 put_new (p ∷ q ∷ ps) doc places h = ap (λ qs. p ∷ qs) (put_new (q ∷ ps) doc places h)
 
-cond_true : {A : Type 0} (b : Bool) (x y : A) → b ≡ true → cond b x y ≡ x
-cond_true b x y e = ap (λ t. cond t x y) e
-
 cond_false : {A : Type 0} (b : Bool) (x y : A) → b ≡ false → cond b x y ≡ y
 cond_false b x y e = ap (λ t. cond t x y) e
 

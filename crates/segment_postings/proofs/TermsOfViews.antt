@@ -103,9 +103,6 @@ late_up from a b before behind =
       | false ↦ λ _. refl
     ] refl
 
-cond_on : {A : Type 0} (b : Bool) (x y : A) → b ≡ true → cond b x y ≡ x
-cond_on b x y e = ap (λ t. cond t x y) e
-
 -- what is put among keys, of those at or after `from`
 late_put : (from k : Key) (xs : List Key) → filter (late from) (put_key xs k) ≡ cond (late from k) (put_key (filter (late from) xs) k) (filter (late from) xs)
 late_put from k [] = refl
