@@ -18,7 +18,7 @@ use Rattle.segment_postings.proofs.KeyOrder.{turned}
 
 -- ---- the order
 
-equal_is : (r : Ordering) → is_eq r ≡ true → r ≡ Equal
+pub equal_is : (r : Ordering) → is_eq r ≡ true → r ≡ Equal
 equal_is Less e = absurd (cc)
 equal_is Equal e = refl
 equal_is Greater e = absurd (cc)

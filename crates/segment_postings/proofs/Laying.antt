@@ -1,5 +1,5 @@
 -- Keys laid out with their places.
-use Rattle.std.proofs.Common.{◌≡◌, ℕ, suc, ◌+◌, ◌-◌, ◌<◌, ◌≤◌, Bool, true, false, not, ◌&&◌, cond, List, [], ◌∷◌, ◌++◌, length, get_or, take, drop, map, filter, fold, refl, sym, ap, subst, ◌∙◌, append_assoc, arith, length-drop, length-take}
+use Rattle.std.proofs.Common.{◌≡◌, ℕ, suc, ◌+◌, ◌-◌, ◌<◌, ◌≤◌, Bool, true, false, not, ◌&&◌, cond, List, [], ◌∷◌, ◌++◌, length, get_or, take, drop, map, filter, fold, refl, sym, ap, subst, ◌∙◌, append_assoc, arith, length-append, length-drop, length-take}
 use Rattle.std.specs.List.{list_all}
 use Rattle.std.specs.List.Sorted.{IsSortedByKey}
 use Rattle.std.specs.Ordering.{is_lt, is_eq, ordering_reverse, match_ordering}
@@ -24,15 +24,15 @@ use Rattle.segment_postings.proofs.ViewLoops.{late}
 
 -- ---- a place more
 
-own_same : (s e : ℕ) (ps : List Place) (p : Place) → s ≤ e → e ≤ length ps → take (e - s) (drop s (ps ++ p ∷ [])) ≡ take (e - s) (drop s ps)
-own_same s e ps p h below =
+own_same : (s e : ℕ) (ps qs : List Place) → s ≤ e → e ≤ length ps → take (e - s) (drop s (ps ++ qs)) ≡ take (e - s) (drop s ps)
+own_same s e ps qs h below =
     let short : s ≤ length ps = omega arith in
     let fits : e - s ≤ length (drop s ps) = omega (arith, length-drop s ps) in
-    ap (take (e - s)) (drop-append-le s ps (p ∷ []) short) ∙ take-append-le (e - s) (drop s ps) (p ∷ []) fits
+    ap (take (e - s)) (drop-append-le s ps qs short) ∙ take-append-le (e - s) (drop s ps) qs fits
 
-own_more : (s : ℕ) (ps : List Place) (p : Place) → s ≤ length ps → take (length (ps ++ p ∷ []) - s) (drop s (ps ++ p ∷ [])) ≡ take (length ps - s) (drop s ps) ++ p ∷ []
-own_more s ps p h =
-    take_rest (ps ++ p ∷ []) s ∙ drop-append-le s ps (p ∷ []) h ∙ ap (λ qs. qs ++ p ∷ []) (sym (take_rest ps s))
+own_more : (s : ℕ) (ps qs : List Place) → s ≤ length ps → take (length (ps ++ qs) - s) (drop s (ps ++ qs)) ≡ take (length ps - s) (drop s ps) ++ qs
+own_more s ps qs h =
+    take_rest (ps ++ qs) s ∙ drop-append-le s ps qs h ∙ ap (λ rs. rs ++ qs) (sym (take_rest ps s))
 
 at-append : (k : Key) (ps : List Place) (p : Place) → at_places k (ps ++ p ∷ []) ≡ at_places k ps ++ record { key = k; place = p } ∷ []
 at-append k ps p = map-append (λ (q : Place). record { key = k; place = q }) ps (p ∷ [])
@@ -45,31 +45,31 @@ spelled_same (t ∷ []) ps k p laid last =
     let low : t.start < length ps = laid.0 in
     let here = at-append t.key (own_places t [] ps) p in
     append-nil (at_places t.key (own_places t [] (ps ++ p ∷ [])))
-    ∙ ap (at_places t.key) (own_more t.start ps p (omega arith)) ∙ here
+    ∙ ap (at_places t.key) (own_more t.start ps (p ∷ []) (omega arith)) ∙ here
     ∙ (λ j. sym (append-nil (at_places t.key (own_places t [] ps))) j ++ record { key = same j; place = p } ∷ [])
 spelled_same (t ∷ u ∷ ts) ps k p laid last =
     let low : t.start < u.start = laid.0 in
     let high : u.start ≤ length ps = laid.1 in
-    ap (λ qs. at_places t.key qs ++ spelled (u ∷ ts) (ps ++ p ∷ [])) (own_same t.start u.start ps p (omega arith) high)
+    ap (λ qs. at_places t.key qs ++ spelled (u ∷ ts) (ps ++ p ∷ [])) (own_same t.start u.start ps (p ∷ []) (omega arith) high)
     ∙ ap (λ os. at_places t.key (own_places t (u ∷ ts) ps) ++ os) (spelled_same (u ∷ ts) ps k p laid.2 last)
     ∙ sym (append_assoc (at_places t.key (own_places t (u ∷ ts) ps)) (spelled (u ∷ ts) ps) _)
 
-start_new : (ts : List Term) (ps : List Place) (t : Term) (p : Place) → t.start ≡ length ps → start_of (ts ++ t ∷ []) (ps ++ p ∷ []) ≡ start_of ts ps
-start_new [] ps t p e = e
-start_new (s ∷ ts) ps t p e = refl
+start_new : (ts : List Term) (ps : List Place) (t : Term) (qs : List Place) → t.start ≡ length ps → start_of (ts ++ t ∷ []) (ps ++ qs) ≡ start_of ts ps
+start_new [] ps t qs e = e
+start_new (s ∷ ts) ps t qs e = refl
 
 -- at a new key
-spelled_new : (ts : List Term) (ps : List Place) (t : Term) (p : Place) → IsLaid ts ps → t.start ≡ length ps → spelled (ts ++ t ∷ []) (ps ++ p ∷ []) ≡ spelled ts ps ++ record { key = t.key; place = p } ∷ []
-spelled_new [] ps t p laid e =
+pub spelled_new : (ts : List Term) (ps : List Place) (t : Term) (qs : List Place) → IsLaid ts ps → t.start ≡ length ps → spelled (ts ++ t ∷ []) (ps ++ qs) ≡ spelled ts ps ++ at_places t.key qs
+spelled_new [] ps t qs laid e =
     let none : take (length ps - t.start) (drop t.start ps) ≡ [] = ap (take (length ps - t.start)) (drop_all t.start ps (omega arith)) ∙ take_all (length ps - t.start) [] (omega arith) in
-    append-nil (at_places t.key (own_places t [] (ps ++ p ∷ [])))
-    ∙ ap (at_places t.key) (own_more t.start ps p (omega arith) ∙ ap (λ qs. qs ++ p ∷ []) none)
-spelled_new (s ∷ ts) ps t p laid e =
+    append-nil (at_places t.key (own_places t [] (ps ++ qs)))
+    ∙ ap (at_places t.key) (own_more t.start ps qs (omega arith) ∙ ap (λ rs. rs ++ qs) none)
+spelled_new (s ∷ ts) ps t qs laid e =
     let low : s.start < start_of ts ps = laid.0 in
     let high : start_of ts ps ≤ length ps = laid.1 in
-    (λ j. at_places s.key (take (start_new ts ps t p e j - s.start) (drop s.start (ps ++ p ∷ []))) ++ spelled (ts ++ t ∷ []) (ps ++ p ∷ []))
-    ∙ ap (λ qs. at_places s.key qs ++ spelled (ts ++ t ∷ []) (ps ++ p ∷ [])) (own_same s.start (start_of ts ps) ps p (omega arith) high)
-    ∙ ap (λ os. at_places s.key (own_places s ts ps) ++ os) (spelled_new ts ps t p laid.2 e)
+    (λ j. at_places s.key (take (start_new ts ps t qs e j - s.start) (drop s.start (ps ++ qs))) ++ spelled (ts ++ t ∷ []) (ps ++ qs))
+    ∙ ap (λ rs. at_places s.key rs ++ spelled (ts ++ t ∷ []) (ps ++ qs)) (own_same s.start (start_of ts ps) ps qs (omega arith) high)
+    ∙ ap (λ os. at_places s.key (own_places s ts ps) ++ os) (spelled_new ts ps t qs laid.2 e)
     ∙ sym (append_assoc (at_places s.key (own_places s ts ps)) (spelled ts ps) _)
 
 laid_same : (ts : List Term) (ps : List Place) (p : Place) → IsLaid ts ps → IsLaid ts (ps ++ p ∷ [])
@@ -77,17 +77,17 @@ laid_same [] ps p laid = tt
 laid_same (t ∷ []) ps p laid = let len = length_push ps p in (omega (arith, len, laid.0), omega (arith, len), tt)
 laid_same (t ∷ u ∷ ts) ps p laid = let len = length_push ps p in (laid.0, omega (arith, len, laid.1), laid_same (u ∷ ts) ps p laid.2)
 
-laid_new : (ts : List Term) (ps : List Place) (t : Term) (p : Place) → IsLaid ts ps → t.start ≡ length ps → IsLaid (ts ++ t ∷ []) (ps ++ p ∷ [])
-laid_new [] ps t p laid e = let len = length_push ps p in (omega (arith, len), omega (arith, len), tt)
-laid_new (s ∷ ts) ps t p laid e =
-    let len = length_push ps p in
-    let start = start_new ts ps t p e in
-    (omega (arith, start, laid.0), omega (arith, len, start, laid.1), laid_new ts ps t p laid.2 e)
+pub laid_new : (ts : List Term) (ps : List Place) (t : Term) (qs : List Place) → IsLaid ts ps → t.start ≡ length ps → 0 < length qs → IsLaid (ts ++ t ∷ []) (ps ++ qs)
+laid_new [] ps t qs laid e some = let len = length-append ps qs in (omega (arith, len), omega (arith, len), tt)
+laid_new (s ∷ ts) ps t qs laid e some =
+    let len = length-append ps qs in
+    let start = start_new ts ps t qs e in
+    (omega (arith, start, laid.0), omega (arith, len, start, laid.1), laid_new ts ps t qs laid.2 e some)
 
 -- ---- the order of the keys
 
 -- a key that is not before x and not x is behind it
-behind : (x k : Key) → is_before k x ≡ false → key_eq x k ≡ false → is_before x k ≡ true
+pub behind : (x k : Key) → is_before k x ≡ false → key_eq x k ≡ false → is_before x k ≡ true
 behind x k not_before differs =
     elim (key_cmp x k) as (λ r. key_cmp x k ≡ r → is_lt r ≡ true) [
       | Less ↦ λ _. refl
@@ -95,27 +95,27 @@ behind x k not_before differs =
       | Greater ↦ λ e. let before : is_before k x ≡ true = ap is_lt (turned k x ∙ ap ordering_reverse e) in absurd (cc)
     ] refl
 
-before_trans : (x y z : Key) → is_before x y ≡ true → is_before y z ≡ true → is_before x z ≡ true
+pub before_trans : (x y z : Key) → is_before x y ≡ true → is_before y z ≡ true → is_before x z ≡ true
 before_trans x y z a b = ap is_lt (key_cmp_total.trans x y z (less_is (key_cmp x y) a) (less_is (key_cmp y z) b))
 
 differs_behind : (x k : Key) → is_before x k ≡ true → key_eq k x ≡ false
 differs_behind x k before = key_cmp_ties k x ∙ ap is_eq (turned k x ∙ ap ordering_reverse (less_is (key_cmp x k) before))
 
-differs_before : (x k : Key) → is_before k x ≡ true → key_eq k x ≡ false
+pub differs_before : (x k : Key) → is_before k x ≡ true → key_eq k x ≡ false
 differs_before x k before = key_cmp_ties k x ∙ ap is_eq (less_is (key_cmp k x) before)
 
-and_left : (a b : Bool) → (a && b) ≡ true → a ≡ true
+pub and_left : (a b : Bool) → (a && b) ≡ true → a ≡ true
 and_left true b h = refl
 and_left false b h = absurd (cc)
 
-and_right : (a b : Bool) → (a && b) ≡ true → b ≡ true
+pub and_right : (a b : Bool) → (a && b) ≡ true → b ≡ true
 and_right true b h = h
 and_right false b h = absurd (cc)
 
-both : (a b : Bool) → a ≡ true → b ≡ true → (a && b) ≡ true
+pub both : (a b : Bool) → a ≡ true → b ≡ true → (a && b) ≡ true
 both a b e f = (λ j. e j && f j)
 
-not_true : (b : Bool) → not b ≡ true → b ≡ false
+pub not_true : (b : Bool) → not b ≡ true → b ≡ false
 not_true true h = absurd (cc)
 not_true false h = refl
 
@@ -164,8 +164,8 @@ lays_one os i ts ps o sorted h e so_far =
       | false ↦ λ last.
           let keys = map-append (λ (u : Term). u.key) ts (t ∷ []) in
           record {
-            is = spelled_new ts ps t o.place so_far.laid refl ∙ ap (λ xs. xs ++ o ∷ []) so_far.is ∙ sym more;
-            laid = laid_new ts ps t o.place so_far.laid refl;
+            is = spelled_new ts ps t (o.place ∷ []) so_far.laid refl ∙ ap (λ xs. xs ++ o ∷ []) so_far.is ∙ sym more;
+            laid = laid_new ts ps t (o.place ∷ []) so_far.laid refl (omega arith);
             rising = subst Ascending (sym keys) (Ascending-push (map (λ u. u.key) ts) o.key so_far.rising (all_before ts o.key so_far.rising (so_far.low i o (omega arith) h e) last));
             low = λ j q a b c.
                 let there : o ≡ get_or os i q = e ∙ get_or_default os i o q h in
@@ -180,7 +180,7 @@ laid_none os = record { is = refl; laid = tt; rising = tt; low = λ j q a b c. r
 -- ---- looking up a key
 
 -- nothing of the key among other keys
-none_at : (k x : Key) (ps : List Place) → key_eq k x ≡ false → with_key k (at_places x ps) ≡ []
+pub none_at : (k x : Key) (ps : List Place) → key_eq k x ≡ false → with_key k (at_places x ps) ≡ []
 none_at k x [] e = refl
 none_at k x (p ∷ ps) e = ap (λ b. cond b (record { key = x; place = p } ∷ with_key k (at_places x ps)) (with_key k (at_places x ps))) e ∙ none_at k x ps e
 
@@ -189,7 +189,7 @@ all_at k x [] e = refl
 all_at k x (p ∷ ps) e =
     ap (λ b. map (λ o. o.place) (cond b (record { key = x; place = p } ∷ with_key k (at_places x ps)) (with_key k (at_places x ps)))) e ∙ ap (λ qs. p ∷ qs) (all_at k x ps e)
 
-split_key : (k : Key) (xs ys : List Occurrence) → with_key k (xs ++ ys) ≡ with_key k xs ++ with_key k ys
+pub split_key : (k : Key) (xs ys : List Occurrence) → with_key k (xs ++ ys) ≡ with_key k xs ++ with_key k ys
 split_key k xs ys = filter-append (λ o. key_eq k o.key) xs ys
 
 past_others : (k : Key) (front rest : List Term) (ps : List Place) → list_all (λ x. not (key_eq k x)) (map (λ t. t.key) front) ≡ true → with_key k (spelled (front ++ rest) ps) ≡ with_key k (spelled rest ps)
@@ -199,10 +199,10 @@ past_others k (t ∷ front) rest ps h =
     ∙ ap (λ os. os ++ with_key k (spelled (front ++ rest) ps)) (none_at k t.key (own_places t (front ++ rest) ps) (not_true _ (and_left _ _ h)))
     ∙ past_others k front rest ps (and_right (not (key_eq k t.key)) _ h)
 
-no_others : (k : Key) (ts : List Term) (ps : List Place) → list_all (λ x. not (key_eq k x)) (map (λ t. t.key) ts) ≡ true → with_key k (spelled ts ps) ≡ []
+pub no_others : (k : Key) (ts : List Term) (ps : List Place) → list_all (λ x. not (key_eq k x)) (map (λ t. t.key) ts) ≡ true → with_key k (spelled ts ps) ≡ []
 no_others k ts ps h = ap (λ us. with_key k (spelled us ps)) (sym (append-nil ts)) ∙ past_others k ts [] ps h
 
-all_like : (p q : Key → Bool) (ks : List Key) → ((x : Key) → p x ≡ true → q x ≡ true) → list_all p ks ≡ true → list_all q ks ≡ true
+pub all_like : (p q : Key → Bool) (ks : List Key) → ((x : Key) → p x ≡ true → q x ≡ true) → list_all p ks ≡ true → list_all q ks ≡ true
 all_like p q [] f h = refl
 all_like p q (k ∷ ks) f h = both _ _ (f k (and_left _ _ h)) (all_like p q ks f (and_right (p k) _ h))
 
@@ -215,7 +215,7 @@ front_differs k (t ∷ ts) =
       | false ↦ λ _. front_differs k ts
     ] refl
 
-Ascending-right : (xs ys : List Key) → Ascending (xs ++ ys) → Ascending ys
+pub Ascending-right : (xs ys : List Key) → Ascending (xs ++ ys) → Ascending ys
 Ascending-right [] ys h = h
 Ascending-right (x ∷ xs) ys h = Ascending-right xs ys h.1
 

@@ -11,3 +11,5 @@ pub mod DocsOfViews
 pub mod Merging
 pub mod Packed
 pub mod Laying
+pub mod MovedPlaces
+pub mod TermWalks

@@ -35,10 +35,10 @@ none_occur field n (d ∷ ds) few =
 
 -- ---- the fields, one after another
 
--- the first n fields have their indexes
-pub record FieldsUpTo (ds : List Document) (n : ℕ) (fs : List (List Occurrence)) : Type 0 where
+-- of the first n fields each is as P says
+pub record FieldsUpTo (P : ℕ → List Occurrence → Type 0) (n : ℕ) (fs : List (List Occurrence)) : Type 0 where
   pub len : length fs ≡ n
-  pub below : (f : ℕ) → f < n → IsIndex ds f (field_at fs f)
+  pub below : (f : ℕ) → f < n → P f (field_at fs f)
 
 at_last : {A : Type 0} (xs : List A) (x d : A) → get_or (xs ++ x ∷ []) (length xs) d ≡ x
 at_last [] x d = refl
@@ -53,28 +53,29 @@ length-push : {A : Type 0} (xs : List A) (x : A) → length (xs ++ x ∷ []) ≡
 length-push [] x = refl
 length-push (y ∷ xs) x = let rest = length-push xs x in omega arith
 
-pub one_field_more : (ds : List Document) (n : ℕ) (fs : List (List Occurrence)) (os : List Occurrence) → FieldsUpTo ds n fs → IsIndex ds n os → FieldsUpTo ds (n + 1) (fs ++ os ∷ [])
-one_field_more ds n fs os up is =
+pub one_field_more : (P : ℕ → List Occurrence → Type 0) (n : ℕ) (fs : List (List Occurrence)) (os : List Occurrence) → FieldsUpTo P n fs → P n os → FieldsUpTo P (n + 1) (fs ++ os ∷ [])
+one_field_more P n fs os up is =
     let len : length fs ≡ n = up.len in
     record {
       len = length-push fs os ∙ ap (λ m. m + 1) up.len;
       below = λ f h. elim (eqb_tells f n) [
-        | inl t ↦ subst (λ m. IsIndex ds m (get_or (fs ++ os ∷ []) m [])) (sym t.1) (subst (IsIndex ds n) (sym (ap (λ m. get_or (fs ++ os ∷ []) m []) (sym len) ∙ at_last fs os [])) is)
-        | inr t ↦ let earlier : f < n = omega (arith, t.1) in subst (IsIndex ds f) (sym (at_earlier fs os [] f (omega arith))) (up.below f earlier)
+        | inl t ↦ subst (λ m. P m (get_or (fs ++ os ∷ []) m [])) (sym t.1) (subst (P n) (sym (ap (λ m. get_or (fs ++ os ∷ []) m []) (sym len) ∙ at_last fs os [])) is)
+        | inr t ↦ let earlier : f < n = omega (arith, t.1) in subst (P f) (sym (at_earlier fs os [] f (omega arith))) (up.below f earlier)
       ];
     }
 
--- all fields, where no document has more
-pub all_fields : (ds : List Document) (n : ℕ) (fs : List (List Occurrence)) → FieldsUpTo ds n fs → All (λ d. length d.values ≤ n) ds → AreIndexes ds fs
-all_fields ds n fs up few f = elim (leb_tells n f) [
-  | inl t ↦
-      let past : n ≤ f = t.1 in
-      subst (IsIndex ds f) (sym (past_end fs f [] (omega (arith, up.len)))) (record {
-        sorted = λ k d _ l. absurd (omega arith);
-        same = λ k. ap (with_key k) (sym (none_occur f 0 ds (λ i d l. omega (arith, few i d l))));
-      })
+-- all fields, where there is nothing past them
+pub every_field : (P : ℕ → List Occurrence → Type 0) (n : ℕ) (fs : List (List Occurrence)) → FieldsUpTo P n fs → ((f : ℕ) → n ≤ f → P f []) → (f : ℕ) → P f (field_at fs f)
+every_field P n fs up past f = elim (leb_tells n f) [
+  | inl t ↦ let far : n ≤ f = t.1 in subst (P f) (sym (past_end fs f [] (omega (arith, up.len)))) (past f far)
   | inr t ↦ up.below f (omega (arith, t.1))
 ]
+
+-- where no document has more fields
+pub all_fields : (ds : List Document) (n : ℕ) (fs : List (List Occurrence)) → FieldsUpTo (IsIndex ds) n fs → All (λ d. length d.values ≤ n) ds → AreIndexes ds fs
+all_fields ds n fs up few = every_field (IsIndex ds) n fs up (λ f past. record {
+  same = λ k. ap (with_key k) (sym (none_occur f 0 ds (λ i d l. omega (arith, few i d l))));
+})
 
 pub mapped_at : {A B : Type 0} (f : A → B) (xs : List A) (i : ℕ) (d : B) (e : A) → i < length xs → get_or (map f xs) i d ≡ f (get_or xs i e)
 mapped_at f [] i d e h = absurd (omega arith)

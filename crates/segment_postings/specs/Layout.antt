@@ -1,10 +1,11 @@
 -- Keys, each once, with their places in one row.
-use Rattle.std.specs.Prelude.{ℕ, ◌-◌, ◌<◌, ◌≤◌, Bool, false, List, [], ◌∷◌, ◌++◌, map, take, drop, length, if◌then◌else◌}
+use Rattle.std.specs.Prelude.{◌≡◌, ℕ, ◌-◌, ◌<◌, ◌≤◌, Bool, true, false, ◌||◌, List, [], ◌∷◌, ◌++◌, map, take, drop, length, nat_lt, if◌then◌else◌}
 use Rattle.field_schema.specs.declared.key.Key.{Key}
 use Rattle.field_schema.specs.Keys.{key_eq}
 use Rattle.segment_postings.specs.declared.laid.Term.{Term}
 use Rattle.segment_postings.specs.declared.occurrence.Occurrence.{Occurrence}
 use Rattle.segment_postings.specs.declared.occurrence.Place.{Place}
+use Rattle.segment_postings.specs.Terms.{is_before, begins_with}
 
 -- where the places of the first of some terms begin
 abbrev pub start_of : List Term → List Place → ℕ
@@ -43,3 +44,28 @@ ends_with k (t ∷ u ∷ ts) = ends_with k (u ∷ ts)
 -- a key more, where it is not the last one
 abbrev pub add_term : List Term → Key → ℕ → List Term
 add_term ts k n = if ends_with k ts then ts else ts ++ record { key = k; start = n } ∷ []
+
+-- the places of a key, where the terms begin with it
+abbrev pub own_of : Key → List Term → List Place → List Place
+own_of k [] ps = []
+own_of k (t ∷ ts) ps = if key_eq k t.key then own_places t ts ps else []
+
+-- the terms behind a key, where they begin with it, and all where they don't
+abbrev pub behind_of : Key → List Term → List Term
+behind_of k [] = []
+behind_of k (t ∷ ts) = if key_eq k t.key then ts else t ∷ ts
+
+-- a key more, where places from `start` on were added
+abbrev pub put_term : List Term → Key → ℕ → ℕ → List Term
+put_term ts k start end = if nat_lt start end then ts ++ record { key = k; start = start } ∷ [] else ts
+
+-- the first of the terms does not stand before the key
+abbrev pub NoneBefore : Key → List Term → Type 0
+NoneBefore k [] = Unit {0}
+NoneBefore k (t ∷ ts) = is_before t.key k ≡ false
+
+-- the key is the least of those that two rows of terms begin with
+pub record IsLeast (k : Key) (left right : List Term) : Type 0 where
+  pub low_left : NoneBefore k left
+  pub low_right : NoneBefore k right
+  pub begins : (begins_with k (map (λ t. t.key) left) || begins_with k (map (λ t. t.key) right)) ≡ true

@@ -5,3 +5,4 @@ pub mod Segments
 pub mod Views
 pub mod Groups
 pub mod Layout
+pub mod Renumbering

@@ -1,10 +1,9 @@
 -- The documents of a segment, and where each key stands in them.
 use Rattle.std.specs.Prelude.{◌≡◌, ℕ, List, [], map, filter, IsTrue, slice_index_or}
 use Rattle.std.specs.List.{enumerate_from, flat_map, list_any}
-use Rattle.std.specs.List.Sorted.{IsSortedByKey}
 use Rattle.field_schema.specs.declared.key.Key.{Key}
 use Rattle.field_schema.specs.declared.key.Key.TheVariants.{Token}
-use Rattle.field_schema.specs.Keys.{key_eq, key_cmp}
+use Rattle.field_schema.specs.Keys.{key_eq}
 use Rattle.field_schema.specs.Values.{values_at}
 use Rattle.doc_model.specs.Document.{Document}
 use Rattle.query_tree.specs.KeysOfDocs.{keys_of_value}
@@ -41,9 +40,8 @@ occurrences field docs = flat_map (of_doc field) (enumerate_from 0 docs)
 abbrev pub with_key : Key → List Occurrence → List Occurrence
 with_key k os = filter (λ o. key_eq k o.key) os
 
--- the list has the keys of the field in order, and each key's occurrences are those in the documents, in their order
+-- each key's occurrences in the list are those in the field of the documents, in their order
 pub record IsIndex (docs : List Document) (field : ℕ) (os : List Occurrence) : Type 0 where
-  pub sorted : IsSortedByKey (λ o. o.key) key_cmp os
   pub same : (k : Key) → with_key k os ≡ with_key k (occurrences field docs)
 
 -- the occurrences of a field, none past the last

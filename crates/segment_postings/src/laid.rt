@@ -1,12 +1,15 @@
 //! The keys of a field, each once, and their places in one row.
-ghost use Rattle.std.specs.Prelude.{◌≡◌, ◌<◌, ◌≤◌, ◌++◌, IfOk, OnOk, map, filter, fold, take, length, not};
+ghost use Rattle.std.specs.Prelude.{◌≡◌, ◌<◌, ◌≤◌, ◌++◌, [], IfOk, OnOk, map, filter, fold, take, length, not};
 ghost use Rattle.std.specs.List.Sorted.{IsSortedByKey};
 ghost use Rattle.field_schema.specs.Keys.{key_cmp};
 ghost use Rattle.segment_postings.specs.Segments.{with_key};
 ghost use Rattle.segment_postings.specs.Terms.{Ascending, is_before, put_key, begins_with};
 ghost use Rattle.segment_postings.specs.Layout.{IsLaid, own_places, add_term, ends_with, first_places};
+ghost use Rattle.segment_postings.specs.Renumbering.{IsJoined};
 
+use crate::combining::{behind, least, own, put_term};
 use crate::occurrence::{Occurrence, Place};
+use crate::renumbering::add_moved;
 use crate::terms::join;
 use field_schema::{Key, NoMemory};
 use std::alloc::Global;
@@ -52,6 +55,45 @@ impl Laid {
             places.push(occurrence.place)?;
         }
         Ok(Laid { terms, places })
+    }
+
+    /// No key.
+    pub fn empty(alloc: Global) -> Laid
+        ensures { result ≡ [] }
+    {
+        Laid {
+            terms: Vec::new(alloc),
+            places: Vec::new(alloc),
+        }
+    }
+
+    /// The keys of two segments, of which the documents get new numbers, as those of one. A key of which no document stays
+    /// is left out. It costs the keys and places of both, and a copy of each key.
+    pub fn joined(
+        alloc: Global,
+        first: &Laid,
+        first_moves: &[Option<u32>],
+        second: &Laid,
+        second_moves: &[Option<u32>],
+    ) -> Result<Laid, NoMemory>
+        ensures { IfOk result (λ l. IsJoined first.now first_moves.now second.now second_moves.now l) }
+    {
+        let mut terms = Vec::new(alloc);
+        let mut places = Vec::new(alloc);
+        let (first_places, second_places) = (first.places.as_slice(), second.places.as_slice());
+        let mut left = first.terms.as_slice();
+        let mut right = second.terms.as_slice();
+        'keys: loop {
+            let Some(key) = least(left, right) else {
+                return Ok(Laid { terms, places });
+            };
+            let start = places.len();
+            add_moved(&mut places, own(left, first_places, key), first_moves)?;
+            add_moved(&mut places, own(right, second_places, key), second_moves)?;
+            put_term(alloc, &mut terms, key, start, places.len())?;
+            left = behind(left, key);
+            right = behind(right, key);
+        }
     }
 
     /// The places of a key. It costs the logarithm of the number of keys.
@@ -111,7 +153,7 @@ fn ends_with(terms: &[Term], key: &Key) -> bool
 }
 
 // Whether a key is the first one.
-fn begins_with(terms: &[Term], key: &Key) -> bool
+pub(crate) fn begins_with(terms: &[Term], key: &Key) -> bool
     ensures { result ≡ begins_with key.now (map (λ t. t.key) terms.now) }
 {
     match terms {
@@ -131,7 +173,7 @@ fn from_term<'a>(terms: &'a [Term], key: &Key) -> &'a [Term]
 }
 
 // The places of the first key.
-fn first_places<'a>(terms: &[Term], places: &'a [Place]) -> &'a [Place]
+pub(crate) fn first_places<'a>(terms: &[Term], places: &'a [Place]) -> &'a [Place]
     requires { IsLaid terms.now places.now }
     ensures { result.now ≡ first_places terms.now places.now }
 {

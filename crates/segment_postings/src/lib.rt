@@ -1,5 +1,6 @@
 #![tactic(auto)]
 
+mod combining;
 mod gathering;
 mod laid;
 mod occurrence;
@@ -7,6 +8,7 @@ mod packing;
 mod posting;
 mod probe;
 mod reads;
+mod renumbering;
 mod segment;
 mod terms;
 mod view;

@@ -20,26 +20,8 @@ pub(crate) struct Packing {
     pub kept: u32,
 }
 
-/// The live documents of two neighbouring segments, of which the first document has the number `start`.
-pub(crate) fn live_docs(
-    alloc: Global,
-    live: &DocSet,
-    start: DocNo,
-    first: &[Arc<Doc>],
-    second: &[Arc<Doc>],
-) -> Result<Vec<Arc<Doc>>, NoMemory>
-    requires { start + (length first.now + length second.now) ≤ MAX_DOCS }
-    ensures { IfOk result (λ v. map arc_value v.items ≡
-        live_from live.now start (map arc_value first.now ++ map arc_value second.now)) }
-{
-    let mut all = Vec::new(alloc);
-    add_live(&mut all, live, start, first)?;
-    add_live(&mut all, live, start + first.len() as u32, second)?;
-    Ok(all)
-}
-
-// Adds the live ones of documents of which the first has the number `base`, shared.
-fn add_live(
+/// Adds the live ones of documents of which the first has the number `base`, shared. It costs their number.
+pub(crate) fn add_live(
     all: &mut Vec<Arc<Doc>>,
     live: &DocSet,
     base: DocNo,

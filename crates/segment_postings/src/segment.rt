@@ -1,5 +1,5 @@
 //! Segments.
-ghost use Rattle.std.specs.Prelude.{◌≡◌, ℕ, ◌+◌, ◌<◌, ◌≤◌, ◌++◌, IfOk, OnOk, All, not, map, filter, fold, take, length};
+ghost use Rattle.std.specs.Prelude.{◌≡◌, ℕ, ◌+◌, ◌<◌, ◌≤◌, ◌++◌, [], IfOk, OnOk, All, not, map, filter, fold, take, length};
 ghost use Rattle.std.specs.Arc.{arc_value};
 ghost use Rattle.field_schema.specs.Values.{values_at};
 ghost use Rattle.doc_sets.specs.declared.TheConstants.{MAX_DOCS};
@@ -7,11 +7,15 @@ ghost use Rattle.segment_postings.specs.Postings.{postings_among};
 ghost use Rattle.segment_postings.specs.Segments.{IsPart, AreIndexes, field_at, with_key};
 ghost use Rattle.segment_postings.specs.Terms.{Ascending, is_before, put_key};
 ghost use Rattle.segment_postings.specs.Groups.{EndsBefore};
+ghost use Rattle.segment_postings.specs.Views.{live_from};
+ghost use Rattle.segment_postings.specs.Renumbering.{AreJoined};
 
 use crate::gathering::gather;
 use crate::laid::Laid;
 use crate::occurrence::{Place, index};
+use crate::packing::add_live;
 use crate::posting::Posting;
+use crate::renumbering::moves;
 use doc_model::Doc;
 use doc_sets::{DocNo, DocSet, MAX_DOCS};
 use field_schema::{FieldNo, Key, NoMemory};
@@ -51,6 +55,38 @@ impl Segment {
         ensures lawful { IfOk result IsPart }
     {
         let fields = index_all(alloc, docs.as_slice())?;
+        Ok(Segment { docs, fields })
+    }
+
+    /// The live documents of two neighbouring segments, of which the first document has the number `start`, as one segment.
+    ///
+    /// It costs a pass over their documents, keys and places, and a copy of each key.
+    pub fn joined(
+        alloc: Global,
+        first: &Segment,
+        second: &Segment,
+        live: &DocSet,
+        start: DocNo,
+    ) -> Result<Segment, NoMemory>
+        requires { start + (length first.now.docs + length second.now.docs) ≤ MAX_DOCS }
+        ensures docs { IfOk result (λ s. s.docs ≡ live_from live.now start (first.now.docs ++ second.now.docs)) }
+        ensures lawful { IfOk result IsPart }
+    {
+        let (one, other) = (first.docs.as_slice(), second.docs.as_slice());
+        let (count, more) = (one.len() as u32, other.len() as u32);
+        let behind = start + count;
+        let mut docs = Vec::new(alloc);
+        add_live(&mut docs, live, start, one)?;
+        let one_moves = moves(alloc, live, start, 0, count)?;
+        let other_moves = moves(alloc, live, behind, docs.len() as u32, more)?;
+        add_live(&mut docs, live, behind, other)?;
+        let fields = join_all(
+            alloc,
+            first.fields.as_slice(),
+            one_moves.as_slice(),
+            second.fields.as_slice(),
+            other_moves.as_slice(),
+        )?;
         Ok(Segment { docs, fields })
     }
 
@@ -135,6 +171,38 @@ fn index_all(alloc: Global, docs: &[Arc<Doc>]) -> Result<Vec<Laid>, NoMemory>
         fields.push(index(alloc, docs, field)?)?;
     }
     Ok(fields)
+}
+
+// The keys of each field of two segments, of which the documents get new numbers, as those of one.
+fn join_all(
+    alloc: Global,
+    first: &[Laid],
+    first_moves: &[Option<u32>],
+    second: &[Laid],
+    second_moves: &[Option<u32>],
+) -> Result<Vec<Laid>, NoMemory>
+    ensures { IfOk result (λ fs. AreJoined first.now first_moves.now second.now second_moves.now fs.items) }
+{
+    let none = Laid::empty(alloc);
+    let width = first.len().max(second.len());
+    let mut fields = Vec::with_capacity(alloc, width)?;
+    for field in 0..width {
+        let one = laid_at(first, field, &none);
+        let other = laid_at(second, field, &none);
+        fields.push(Laid::joined(alloc, one, first_moves, other, second_moves)?)?;
+    }
+    Ok(fields)
+}
+
+// The keys of a field, `none` past the last one.
+fn laid_at<'a>(fields: &'a [Laid], field: usize, none: &'a Laid) -> &'a Laid
+    requires { none.now ≡ [] }
+    ensures { result.now ≡ field_at fields.now field }
+{
+    match fields.get(field) {
+        Some(laid) => laid,
+        None => none,
+    }
 }
 
 // How many fields the documents have at most.

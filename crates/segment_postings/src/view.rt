@@ -5,10 +5,11 @@ ghost use Rattle.std.specs.List.{range_with_len};
 ghost use Rattle.doc_sets.specs.declared.TheConstants.{MAX_DOCS};
 ghost use Rattle.segment_postings.specs.Numbered.{IsNumbered, IsLive, no_docs, numbers, docs, extended, doc_at};
 ghost use Rattle.segment_postings.specs.Postings.{postings_of};
+ghost use Rattle.segment_postings.specs.Segments.{IsPart};
 ghost use Rattle.segment_postings.specs.Terms.{AreTerms, terms_from};
 ghost use Rattle.segment_postings.specs.Views.{terms_of, all_docs, AddsNumbers, AddsPart, Merges, Packs, IsPacked};
 
-use crate::packing::{Packing, live_docs, moved};
+use crate::packing::{Packing, moved};
 use crate::posting::Posting;
 use crate::segment::Segment;
 use doc_model::Doc;
@@ -72,7 +73,8 @@ impl View {
         let count = added.len() as u32;
         let live = next_live(alloc, &self.live, deleted, self.size, count)?;
         let size = self.size + count;
-        let parts = with_added(alloc, self.parts.as_slice(), added)?;
+        let part = Segment::new(alloc, added)?;
+        let parts = with_part(alloc, self.parts.as_slice(), part)?;
         Ok(View { parts, live, size })
     }
 
@@ -80,8 +82,8 @@ impl View {
     /// The live documents and their order are the same, those of the two segments have numbers one after another, and
     /// those behind them move down.
     ///
-    /// Fails only for want of memory. It costs a pass over the two segments' documents and a sort of the keys of those
-    /// that are live, and a step for each 64 numbers of the view, or for each number where one of the documents is deleted.
+    /// Fails only for want of memory. It costs one pass over the two segments' documents, keys and places, and a step for
+    /// each 64 numbers of the view, or for each number where one of the documents is deleted.
     pub fn merge(&self, alloc: Global, at: u32) -> Result<View, NoMemory>
         requires { at + 1 < length self.now.keys }
         ensures docs { IfOk result (λ v. docs v.seen ≡ docs self.now.seen) }
@@ -91,9 +93,9 @@ impl View {
     {
         let parts = self.parts.as_slice();
         let at = at as usize;
-        let (packing, docs) = packed(alloc, &self.live, parts, at)?;
+        let (packing, part) = packed(alloc, &self.live, parts, at)?;
         let live = moved(alloc, &self.live, self.size, packing)?;
-        let parts = merged(alloc, parts, at, docs)?;
+        let parts = merged(alloc, parts, at, part)?;
         let size = self.size - (packing.count - packing.kept);
         Ok(View { parts, live, size })
     }
@@ -232,20 +234,19 @@ fn range(alloc: Global, first: u32, count: u32) -> Result<Vec<u32>, NoMemory>
     Ok(numbers)
 }
 
-// The same segments, shared, and one of the added documents where there are any.
-fn with_added(
+// The same segments, shared, and one more where it holds documents.
+fn with_part(
     alloc: Global,
     parts: &[Arc<Segment>],
-    added: Vec<Arc<Doc>>,
+    part: Segment,
 ) -> Result<Vec<Arc<Segment>>, NoMemory>
-    requires { length added.items ≤ MAX_DOCS }
-    ensures { IfOk result (λ v. AddsPart (map arc_value parts.now) (map arc_value added.items) (map arc_value v.items)) }
+    requires { IsPart part }
+    ensures { IfOk result (λ v. AddsPart (map arc_value parts.now) part.docs (map arc_value v.items)) }
 {
     let mut all = shared(alloc, parts)?;
-    if added.is_empty() {
+    if part.docs().is_empty() {
         return Ok(all);
     }
-    let part = Segment::new(alloc, added)?;
     all.push(Arc::new(alloc, part)?)?;
     Ok(all)
 }
@@ -262,41 +263,41 @@ fn count(parts: &[Arc<Segment>]) -> u32
     total
 }
 
-// The live documents of two neighbours, and how they take the places of all.
+// The live documents of two neighbours as one segment, and how they take the places of all.
 fn packed(
     alloc: Global,
     live: &DocSet,
     parts: &[Arc<Segment>],
     at: usize,
-) -> Result<(Packing, Vec<Arc<Doc>>), NoMemory>
+) -> Result<(Packing, Segment), NoMemory>
     requires both { at + 1 < length parts.now }
     requires most { length (all_docs (map arc_value parts.now)) ≤ MAX_DOCS }
-    ensures { IfOk result (λ r. Packs live.now (map arc_value parts.now) at (map arc_value r.1.items) r.0) }
+    ensures packs { IfOk result (λ r. Packs live.now (map arc_value parts.now) at r.1.docs r.0) }
+    ensures lawful { IfOk result (λ r. IsPart r.1) }
 {
-    let first = parts[at].docs();
-    let second = parts[at + 1].docs();
+    let (first, second) = (&parts[at], &parts[at + 1]);
     let start = count(&parts[..at]);
-    let docs = live_docs(alloc, live, start, first, second)?;
+    let part = Segment::joined(alloc, first, second, live, start)?;
     let packing = Packing {
         start,
-        count: (first.len() + second.len()) as u32,
-        kept: docs.len() as u32,
+        count: (first.docs().len() + second.docs().len()) as u32,
+        kept: part.docs().len() as u32,
     };
-    Ok((packing, docs))
+    Ok((packing, part))
 }
 
-// The same segments, two neighbours as one of the documents that are kept of them, where there are any.
+// The same segments, two neighbours as the one that is made of them, where it holds documents.
 fn merged(
     alloc: Global,
     parts: &[Arc<Segment>],
     at: usize,
-    kept: Vec<Arc<Doc>>,
+    part: Segment,
 ) -> Result<Vec<Arc<Segment>>, NoMemory>
     requires both { at + 1 < length parts.now }
-    requires most { length kept.items ≤ MAX_DOCS }
-    ensures { IfOk result (λ v. Merges (map arc_value parts.now) at (map arc_value kept.items) (map arc_value v.items)) }
+    requires lawful { IsPart part }
+    ensures { IfOk result (λ v. Merges (map arc_value parts.now) at part.docs (map arc_value v.items)) }
 {
-    let mut all = with_added(alloc, &parts[..at], kept)?;
+    let mut all = with_part(alloc, &parts[..at], part)?;
     share(&mut all, &parts[at + 2..])?;
     Ok(all)
 }

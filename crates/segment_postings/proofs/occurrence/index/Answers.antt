@@ -13,7 +13,6 @@ new-requires c = subst (IsSortedByKey (λ (o : Occurrence). o.key) key_cmp) (sym
 
 pub returns : goal.returns
 returns c = subst (λ (os : List Occurrence). IsIndex (map arc_value c.args.docs.now) c.args.field os) (sym (c.in_ok-laid.ensures ∙ c.as_slice.ensures.value)) (record {
-  sorted = c.in_ok-sort.ensures.sorted;
   same = λ k.
       let alike = filter_alike (λ (o : Occurrence). ties (λ x y. is_lt (key_cmp x.key y.key)) (occurrence 0 0 (0, k)) o) (λ o. key_eq k o.key) (λ o. ties_are_equal k o.key) in
       sym (alike _) ∙ c.sort.ensures.stable (occurrence 0 0 (0, k)) ∙ alike _ ∙ ap (with_key k) c.in_ok-found.ensures;

@@ -1,13 +1,14 @@
 use Rattle.std.proofs.Common.{◌≡◌, ◌≤◌, map, sym, subst, arith, rules}
 use Rattle.std.specs.Arc.{arc_value}
+use Rattle.segment_postings.specs.Segments.{IsIndex}
 use Rattle.segment_postings.proofs.SegmentLaws.{FieldsUpTo, one_field_more, all_fields}
 use Rattle.segment_postings.proofs.segment.index_all.Goals as goal
 
 pub loop-field-preserved : goal.loop-field-preserved
 loop-field-preserved c =
     let ds = map arc_value c.args.docs.now in
-    subst (FieldsUpTo ds _) (sym c.in_ok-push.ensures.items)
-    (one_field_more ds c.loop-field.field c.loop-field.fields.items _ c.loop-field.invariant c.in_ok-index.ensures)
+    subst (FieldsUpTo (IsIndex ds) _) (sym c.in_ok-push.ensures.items)
+    (one_field_more (IsIndex ds) c.loop-field.field c.loop-field.fields.items _ c.loop-field.invariant c.in_ok-index.ensures)
 
 pub returns : goal.returns
 returns c =

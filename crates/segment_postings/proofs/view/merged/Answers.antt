@@ -13,5 +13,5 @@ returns c =
     let both : c.args.at + 1 < length ps = omega (arith, length-map xs arc_value, c.requires.both) in
     let rest = take_all (length xs - (c.args.at + 2)) (drop (c.args.at + 2) xs) (omega (arith, length-drop (c.args.at + 2) xs)) in
     let list = c.in_ok-share.ensures ∙ ap (λ ys. map arc_value c.in_ok-all.all.items ++ ys) (ap (map arc_value) rest ∙ sym (drop-map arc_value (c.args.at + 2) xs)) in
-    merges_two ps (map arc_value c.in_ok-all.all.items) (map arc_value c.share.new.all.items) c.args.at (map arc_value c.args.kept.items) both
-    (subst (λ qs. AddsPart qs (map arc_value c.args.kept.items) (map arc_value c.in_ok-all.all.items)) (sym (take-map arc_value c.args.at xs)) c.in_ok-all.ensures) list
+    merges_two ps (map arc_value c.in_ok-all.all.items) (map arc_value c.share.new.all.items) c.args.at c.args.part.docs both
+    (subst (λ qs. AddsPart qs c.args.part.docs (map arc_value c.in_ok-all.all.items)) (sym (take-map arc_value c.args.at xs)) c.in_ok-all.ensures) list

@@ -15,7 +15,9 @@ adds : (c : In_ok-parts) → AddsNumbers c.self.inside.live c.args.deleted.now c
 adds c = subst (λ n. AddsNumbers c.self.inside.live c.args.deleted.now c.self.inside.size n c.in_ok-live.live) (count_is c) c.in_ok-live.ensures
 
 more : (c : In_ok-parts) → AddsPart (map arc_value c.self.inside.parts.items) (map arc_value c.args.added.items) (map arc_value c.in_ok-parts.parts.items)
-more c = subst (λ ps. AddsPart (map arc_value ps) (map arc_value c.args.added.items) (map arc_value c.in_ok-parts.parts.items)) c.as_slice.ensures.value c.in_ok-parts.ensures
+more c =
+    subst (λ ds. AddsPart (map arc_value c.self.inside.parts.items) ds (map arc_value c.in_ok-parts.parts.items)) c.in_ok-part.ensures.docs
+    (subst (λ ps. AddsPart (map arc_value ps) c.in_ok-part.part.docs (map arc_value c.in_ok-parts.parts.items)) c.as_slice.ensures.value c.in_ok-parts.ensures)
 
 most : (c : In_ok-parts) → c.self.inside.size + length (map arc_value c.args.added.items) ≤ MAX_DOCS
 most c =

@@ -21,7 +21,7 @@ packed-requires-clause-most c =
     subst (λ ys. length (all_docs (map arc_value ys)) ≤ MAX_DOCS) (sym c.as_slice-parts.ensures.value) (subst (λ n. n ≤ MAX_DOCS) c.self.invariant.size c.self.invariant.most)
 
 pub moved-requires : goal.moved-requires
-moved-requires c = is_packing c.self.inside.live c.self.inside.size (map arc_value c.self.inside.parts.items) c.args.at (map arc_value c.in_ok-packing.docs.items) c.in_ok-packing.packing c.self.invariant (same_packs arc_value c.self.inside.live c.as_slice-parts.result.now c.self.inside.parts.items c.args.at (map arc_value c.in_ok-packing.docs.items) c.in_ok-packing.packing c.as_slice-parts.ensures.value c.in_ok-packing.ensures)
+moved-requires c = is_packing c.self.inside.live c.self.inside.size (map arc_value c.self.inside.parts.items) c.args.at c.in_ok-packing.part.docs c.in_ok-packing.packing c.self.invariant (same_packs arc_value c.self.inside.live c.as_slice-parts.result.now c.self.inside.parts.items c.args.at c.in_ok-packing.part.docs c.in_ok-packing.packing c.as_slice-parts.ensures.value c.in_ok-packing.ensures.packs)
 
 pub merged-requires-clause-both : goal.merged-requires-clause-both
 merged-requires-clause-both c =
@@ -31,31 +31,25 @@ merged-requires-clause-both c =
     let value = ap length c.as_slice-parts.ensures.value in
     omega (arith, keys, one, two, value, c.requires)
 
-pub merged-requires-clause-most : goal.merged-requires-clause-most
-merged-requires-clause-most c =
-    let p = is_packing c.self.inside.live c.self.inside.size (map arc_value c.self.inside.parts.items) c.args.at (map arc_value c.in_ok-packing.docs.items) c.in_ok-packing.packing c.self.invariant (same_packs arc_value c.self.inside.live c.as_slice-parts.result.now c.self.inside.parts.items c.args.at (map arc_value c.in_ok-packing.docs.items) c.in_ok-packing.packing c.as_slice-parts.ensures.value c.in_ok-packing.ensures) in
-    let q = same_packs arc_value c.self.inside.live c.as_slice-parts.result.now c.self.inside.parts.items c.args.at (map arc_value c.in_ok-packing.docs.items) c.in_ok-packing.packing c.as_slice-parts.ensures.value c.in_ok-packing.ensures in
-    omega (arith, p.few, p.within, p.most, q.kept, length-map c.in_ok-packing.docs.items arc_value)
-
 pub overflow_sub-size : goal.overflow_sub-size
-overflow_sub-size c = (is_packing c.self.inside.live c.self.inside.size (map arc_value c.self.inside.parts.items) c.args.at (map arc_value c.in_ok-packing.docs.items) c.in_ok-packing.packing c.self.invariant (same_packs arc_value c.self.inside.live c.as_slice-parts.result.now c.self.inside.parts.items c.args.at (map arc_value c.in_ok-packing.docs.items) c.in_ok-packing.packing c.as_slice-parts.ensures.value c.in_ok-packing.ensures)).few
+overflow_sub-size c = (is_packing c.self.inside.live c.self.inside.size (map arc_value c.self.inside.parts.items) c.args.at c.in_ok-packing.part.docs c.in_ok-packing.packing c.self.invariant (same_packs arc_value c.self.inside.live c.as_slice-parts.result.now c.self.inside.parts.items c.args.at c.in_ok-packing.part.docs c.in_ok-packing.packing c.as_slice-parts.ensures.value c.in_ok-packing.ensures.packs)).few
 
 pub overflow_sub-size-2 : goal.overflow_sub-size-2
-overflow_sub-size-2 c = let p = is_packing c.self.inside.live c.self.inside.size (map arc_value c.self.inside.parts.items) c.args.at (map arc_value c.in_ok-packing.docs.items) c.in_ok-packing.packing c.self.invariant (same_packs arc_value c.self.inside.live c.as_slice-parts.result.now c.self.inside.parts.items c.args.at (map arc_value c.in_ok-packing.docs.items) c.in_ok-packing.packing c.as_slice-parts.ensures.value c.in_ok-packing.ensures) in omega (arith, p.few, p.within)
+overflow_sub-size-2 c = let p = is_packing c.self.inside.live c.self.inside.size (map arc_value c.self.inside.parts.items) c.args.at c.in_ok-packing.part.docs c.in_ok-packing.packing c.self.invariant (same_packs arc_value c.self.inside.live c.as_slice-parts.result.now c.self.inside.parts.items c.args.at c.in_ok-packing.part.docs c.in_ok-packing.packing c.as_slice-parts.ensures.value c.in_ok-packing.ensures.packs) in omega (arith, p.few, p.within)
 
 pub invariant_of-result : goal.invariant_of-result
 invariant_of-result c =
     packed_view c.self.inside.live c.in_ok-live.live c.self.inside.size (map arc_value c.self.inside.parts.items) (map arc_value c.in_ok-parts.parts.items) c.args.at
-    (map arc_value c.in_ok-packing.docs.items) c.in_ok-packing.packing c.self.invariant (same_packs arc_value c.self.inside.live c.as_slice-parts.result.now c.self.inside.parts.items c.args.at (map arc_value c.in_ok-packing.docs.items) c.in_ok-packing.packing c.as_slice-parts.ensures.value c.in_ok-packing.ensures) c.in_ok-live.ensures (same_merges arc_value c.as_slice-parts.result.now c.self.inside.parts.items (map arc_value c.in_ok-parts.parts.items) c.args.at (map arc_value c.in_ok-packing.docs.items) c.as_slice-parts.ensures.value c.in_ok-parts.ensures)
+    c.in_ok-packing.part.docs c.in_ok-packing.packing c.self.invariant (same_packs arc_value c.self.inside.live c.as_slice-parts.result.now c.self.inside.parts.items c.args.at c.in_ok-packing.part.docs c.in_ok-packing.packing c.as_slice-parts.ensures.value c.in_ok-packing.ensures.packs) c.in_ok-live.ensures (same_merges arc_value c.as_slice-parts.result.now c.self.inside.parts.items (map arc_value c.in_ok-parts.parts.items) c.args.at c.in_ok-packing.part.docs c.as_slice-parts.ensures.value c.in_ok-parts.ensures)
 
 pub returns : goal.returns
 returns c =
     let old = map arc_value c.self.inside.parts.items in
     let new = map arc_value c.in_ok-parts.parts.items in
-    let stay = map arc_value c.in_ok-packing.docs.items in
+    let stay = c.in_ok-packing.part.docs in
     let p = c.in_ok-packing.packing in
-    let m = same_merges arc_value c.as_slice-parts.result.now c.self.inside.parts.items (map arc_value c.in_ok-parts.parts.items) c.args.at (map arc_value c.in_ok-packing.docs.items) c.as_slice-parts.ensures.value c.in_ok-parts.ensures in
-    let is = same_packs arc_value c.self.inside.live c.as_slice-parts.result.now c.self.inside.parts.items c.args.at (map arc_value c.in_ok-packing.docs.items) c.in_ok-packing.packing c.as_slice-parts.ensures.value c.in_ok-packing.ensures in
+    let m = same_merges arc_value c.as_slice-parts.result.now c.self.inside.parts.items (map arc_value c.in_ok-parts.parts.items) c.args.at c.in_ok-packing.part.docs c.as_slice-parts.ensures.value c.in_ok-parts.ensures in
+    let is = same_packs arc_value c.self.inside.live c.as_slice-parts.result.now c.self.inside.parts.items c.args.at c.in_ok-packing.part.docs c.in_ok-packing.packing c.as_slice-parts.ensures.value c.in_ok-packing.ensures.packs in
     let keys = ap (λ (v : Indexed). length v.keys) c.self.view_is in
     let old_keys = length-map old (λ (q : Part). q.keys) in
     let new_keys = length-map new (λ (q : Part). q.keys) in
