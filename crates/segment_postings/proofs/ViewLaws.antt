@@ -4,7 +4,7 @@ use Rattle.std.specs.List.{enumerate_from, range_with_len}
 use Rattle.std.specs.Ordering.{nat_cmp}
 use Rattle.std.specs.List.Sorted.{IsStrictlyIncreasing}
 use Rattle.std.specs.Cmp.{nat_cmp_total}
-use Rattle.std.specs.FinSet.{contains, len, from_list, contains-from_list_nat, len-empty, len-insert, same_set, empty, contains-empty, union, difference, contains-union, contains-difference, nat_cmp-IsAntisymmetric}
+use Rattle.std.specs.FinSet.{contains, len, from_list, contains-from_list_nat, len-empty, empty_of_len, len-insert, same_set, empty, contains-empty, union, difference, contains-union, contains-difference, nat_cmp-IsAntisymmetric}
 use Rattle.std.proofs.lemmas.List.{length-map, append-nil}
 use Rattle.std.proofs.lemmas.List.Elements.{filter-append, All-append, All-cons, All-head, All-tail}
 use Rattle.std.proofs.lemmas.List.Concat.{flat_map-append}
@@ -243,3 +243,19 @@ numbers_added live gone kept fresh all size count e f g within =
         | inr t ↦ t.1
       ];
     }
+
+-- where none is gone all stay
+none_gone : (live gone : Numbers) → len gone ≡ 0 → (n : ℕ) → contains live n ≡ (contains live n && not (contains gone n))
+none_gone live gone e n =
+    let none : contains gone n ≡ false = ap (λ s. contains s n) (empty_of_len gone e) ∙ contains-empty nat_cmp n in
+    (elim (contains live n) as (λ b. b ≡ (b && true)) [ true ↦ refl | false ↦ refl ]) ∙ ap (λ b. contains live n && not b) (sym none)
+
+pub all_stay : (live gone : Numbers) → len gone ≡ 0 → live ≡ difference live gone
+all_stay live gone e = same_set nat_cmp_total nat_cmp-IsAntisymmetric _ _ (λ n. none_gone live gone e n ∙ sym (contains-difference nat_cmp_total live gone n))
+
+pub nothing_changes : (live gone s : Numbers) (size count : ℕ) → count ≡ 0 → len gone ≡ 0 → s ≡ live → ((n : ℕ) → contains live n ≡ true → n < size) → AddsNumbers live gone size count s
+nothing_changes live gone s size count none e same within = record {
+  older = λ n low. ap (λ t. contains t n) same ∙ none_gone live gone e n;
+  newer = λ n low high. absurd (omega arith);
+  within = λ n has. let under : n < size = within n (sym (ap (λ t. contains t n) same) ∙ has) in omega arith;
+}

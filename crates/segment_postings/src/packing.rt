@@ -50,36 +50,28 @@ fn add_where(all: &mut Vec<Arc<Doc>>, wanted: bool, doc: &Arc<Doc>) -> Result<()
     Ok(())
 }
 
-/// The live numbers below `size` as documents are packed.
+/// The live numbers below `size` as documents are packed: the same set, shared, where all of them stay.
 ///
-/// It costs a step for each 64 of the numbers, or for each where a document goes.
+/// It costs a step for each of the numbers where a document goes.
 pub(crate) fn moved(
     alloc: Global,
-    live: &DocSet,
+    live: &Arc<DocSet>,
     size: u32,
     packing: Packing,
-) -> Result<DocSet, NoMemory>
-    requires { IsPacking live.now size packing }
-    ensures { IfOk result (λ s. Moves live.now packing s) }
+) -> Result<Arc<DocSet>, NoMemory>
+    requires { IsPacking (arc_value live.now) size packing }
+    ensures { IfOk result (λ s. Moves (arc_value live.now) packing (arc_value s)) }
 {
     if packing.kept == packing.count {
-        return copy_of(alloc, live);
+        let same = Arc::clone(live)?;
+        return Ok(same);
     }
     let numbers = moved_numbers(alloc, live, size, packing)?;
     let Ok(all) = DocSet::from_sorted(alloc, numbers.as_slice()) else {
         return Err(NoMemory);
     };
+    let all = Arc::new(alloc, all)?;
     Ok(all)
-}
-
-// The same set.
-fn copy_of(alloc: Global, set: &DocSet) -> Result<DocSet, NoMemory>
-    ensures { IfOk result (λ s. s ≡ set.now) }
-{
-    let Ok(copy) = set.or(alloc, &DocSet::new(alloc)) else {
-        return Err(NoMemory);
-    };
-    Ok(copy)
 }
 
 // The live numbers as documents are packed, ascending.

@@ -27,7 +27,7 @@ use std::sync::Arc;
 #[derive(Drop)]
 pub struct View {
     parts: Vec<Arc<Segment>>,
-    live: DocSet,
+    live: Arc<DocSet>,
     size: u32,
 }
 
@@ -38,9 +38,9 @@ impl Model for View {
 
     ghost Value = { Indexed };
 
-    ghost view = { λ v. indexed v.live (map arc_value v.parts.items) };
+    ghost view = { λ v. indexed (arc_value v.live) (map arc_value v.parts.items) };
 
-    ghost invariant = { λ v. IsView v.live v.size (map arc_value v.parts.items) };
+    ghost invariant = { λ v. IsView (arc_value v.live) v.size (map arc_value v.parts.items) };
 }
 
 impl View {
@@ -49,9 +49,10 @@ impl View {
         ensures seen { IfOk result (λ v. v.seen ≡ no_docs) }
         ensures segments { IfOk result (λ v. length v.keys ≡ 0) }
     {
+        let live = Arc::new(alloc, DocSet::new(alloc))?;
         Ok(View {
             parts: Vec::new(alloc),
-            live: DocSet::new(alloc),
+            live,
             size: 0,
         })
     }
@@ -59,7 +60,8 @@ impl View {
     /// The view without the documents of `deleted`, and with `added` behind them. The size grows by these.
     ///
     /// Fails only for want of memory. It costs a pass over the documents added and a sort of their keys, and a step
-    /// for each 64 numbers of the view; no older segment is read.
+    /// for each 64 numbers of the view; no older segment is read. Where nothing is added or deleted the set of live numbers
+    /// is shared.
     pub fn extend(
         &self,
         alloc: Global,
@@ -82,8 +84,8 @@ impl View {
     /// The live documents and their order are the same, those of the two segments have numbers one after another, and
     /// those behind them move down.
     ///
-    /// Fails only for want of memory. It costs one pass over the two segments' documents, keys and places, and a step for
-    /// each 64 numbers of the view, or for each number where one of the documents is deleted.
+    /// Fails only for want of memory. It costs one pass over the two segments' documents, keys and places, and where one of
+    /// the documents is deleted a step for each number of the view; else the set of live numbers is shared.
     pub fn merge(&self, alloc: Global, at: u32) -> Result<View, NoMemory>
         requires { at + 1 < length self.now.keys }
         ensures docs { IfOk result (λ v. docs v.seen ≡ docs self.now.seen) }
@@ -151,11 +153,12 @@ impl View {
     ) -> Result<Vec<Posting>, NoMemory>
         ensures { IfOk result (λ p. p.items ≡ postings_of self.now.seen field key.now) }
     {
+        let live: &DocSet = &self.live;
         let mut found = Vec::new(alloc);
         let mut base = 0;
         let parts = self.parts.as_slice();
         for part in parts {
-            part.add_postings(alloc, &mut found, &self.live, base, field, key)?;
+            part.add_postings(alloc, &mut found, live, base, field, key)?;
             base += part.docs().len() as u32;
         }
         Ok(found)
@@ -197,8 +200,30 @@ impl View {
     }
 }
 
-// The live numbers without those of `deleted`, and with the `count` ones from `size` on.
+// The live numbers without those of `deleted`, and with the `count` ones from `size` on: the same set, shared, where
+// nothing changes.
 fn next_live(
+    alloc: Global,
+    live: &Arc<DocSet>,
+    deleted: &DocSet,
+    size: u32,
+    count: u32,
+) -> Result<Arc<DocSet>, NoMemory>
+    requires most { size + count ≤ MAX_DOCS }
+    requires within { (n : ℕ) → set.contains (arc_value live.now) n ≡ true → n < size }
+    ensures { IfOk result (λ s. AddsNumbers (arc_value live.now) deleted.now size count (arc_value s)) }
+{
+    if count == 0 && deleted.len() == 0 {
+        let same = Arc::clone(live)?;
+        return Ok(same);
+    }
+    let all = with_numbers(alloc, live, deleted, size, count)?;
+    let all = Arc::new(alloc, all)?;
+    Ok(all)
+}
+
+// The live numbers without those of `deleted`, and with the `count` ones from `size` on.
+fn with_numbers(
     alloc: Global,
     live: &DocSet,
     deleted: &DocSet,
@@ -209,17 +234,29 @@ fn next_live(
     requires within { (n : ℕ) → set.contains live.now n ≡ true → n < size }
     ensures { IfOk result (λ s. AddsNumbers live.now deleted.now size count s) }
 {
-    let Ok(kept) = live.minus(alloc, deleted) else {
-        return Err(NoMemory);
-    };
     let numbers = range(alloc, size, count)?;
     let Ok(fresh) = DocSet::from_sorted(alloc, numbers.as_slice()) else {
         return Err(NoMemory);
     };
-    let Ok(all) = kept.or(alloc, &fresh) else {
+    if deleted.len() == 0 {
+        let all = either(alloc, live, &fresh)?;
+        return Ok(all);
+    }
+    let Ok(kept) = live.minus(alloc, deleted) else {
         return Err(NoMemory);
     };
+    let all = either(alloc, &kept, &fresh)?;
     Ok(all)
+}
+
+// The numbers that either set has.
+fn either(alloc: Global, left: &DocSet, right: &DocSet) -> Result<DocSet, NoMemory>
+    ensures { IfOk result (λ s. s ≡ set.union left.now right.now) }
+{
+    match left.or(alloc, right) {
+        Ok(all) => Ok(all),
+        Err(_) => Err(NoMemory),
+    }
 }
 
 // The `count` numbers from `first` on.
@@ -266,13 +303,13 @@ fn count(parts: &[Arc<Segment>]) -> u32
 // The live documents of two neighbours as one segment, and how they take the places of all.
 fn packed(
     alloc: Global,
-    live: &DocSet,
+    live: &Arc<DocSet>,
     parts: &[Arc<Segment>],
     at: usize,
 ) -> Result<(Packing, Segment), NoMemory>
     requires both { at + 1 < length parts.now }
     requires most { length (all_docs (map arc_value parts.now)) ≤ MAX_DOCS }
-    ensures packs { IfOk result (λ r. Packs live.now (map arc_value parts.now) at r.1.docs r.0) }
+    ensures packs { IfOk result (λ r. Packs (arc_value live.now) (map arc_value parts.now) at r.1.docs r.0) }
     ensures lawful { IfOk result (λ r. IsPart r.1) }
 {
     let (first, second) = (&parts[at], &parts[at + 1]);

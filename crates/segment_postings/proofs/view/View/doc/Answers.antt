@@ -27,7 +27,7 @@ pub returns-then-place-docs : goal.returns-then-place-docs
 returns-then-place-docs c =
     let xs = c.as_slice-parts.result.now in
     let within : c.loop-part.part-index < length xs = omega arith in
-    let live = c.self.inside.live in
+    let live = (arc_value c.self.inside.live) in
     let parts = map arc_value c.self.inside.parts.items in
     let n = c.args.number in
     let d : Document = arc_value c.index-docs-place.result in
@@ -48,7 +48,7 @@ returns-then-place-docs c =
 pub unreachable-requires : goal.unreachable-requires
 unreachable-requires c =
     let xs = c.as_slice-parts.result.now in
-    let live = c.self.inside.live in
+    let live = (arc_value c.self.inside.live) in
     let parts = map arc_value c.self.inside.parts.items in
     let n = c.args.number in
     let alive : contains live n ≡ true = live_is_in live (all_docs parts) n (subst (λ (v : Indexed). IsLive v.seen n) (sym c.self.view_is) c.requires) in

@@ -11,8 +11,8 @@ use Rattle.segment_postings.proofs.view.View.extend.Goals.{In_ok-parts}
 count_is : (c : In_ok-parts) → c.len-count.result ≡ length (map arc_value c.args.added.items)
 count_is c = let len : c.len-count.result ≡ length c.args.added.items = cc in len ∙ sym (length-map c.args.added.items arc_value)
 
-adds : (c : In_ok-parts) → AddsNumbers c.self.inside.live c.args.deleted.now c.self.inside.size (length (map arc_value c.args.added.items)) c.in_ok-live.live
-adds c = subst (λ n. AddsNumbers c.self.inside.live c.args.deleted.now c.self.inside.size n c.in_ok-live.live) (count_is c) c.in_ok-live.ensures
+adds : (c : In_ok-parts) → AddsNumbers (arc_value c.self.inside.live) c.args.deleted.now c.self.inside.size (length (map arc_value c.args.added.items)) (arc_value c.in_ok-live.live)
+adds c = subst (λ n. AddsNumbers (arc_value c.self.inside.live) c.args.deleted.now c.self.inside.size n (arc_value c.in_ok-live.live)) (count_is c) c.in_ok-live.ensures
 
 more : (c : In_ok-parts) → AddsPart (map arc_value c.self.inside.parts.items) (map arc_value c.args.added.items) (map arc_value c.in_ok-parts.parts.items)
 more c =
@@ -26,10 +26,10 @@ most c =
 
 pub invariant_of-result : goal.invariant_of-result
 invariant_of-result c =
-    subst (λ n. IsView c.in_ok-live.live (c.self.inside.size + n) (map arc_value c.in_ok-parts.parts.items)) (sym (count_is c))
-    (added_view c.self.inside.live c.args.deleted.now c.in_ok-live.live c.self.inside.size (map arc_value c.self.inside.parts.items) (map arc_value c.in_ok-parts.parts.items) (map arc_value c.args.added.items) c.self.invariant (adds c) (more c) (most c))
+    subst (λ n. IsView (arc_value c.in_ok-live.live) (c.self.inside.size + n) (map arc_value c.in_ok-parts.parts.items)) (sym (count_is c))
+    (added_view (arc_value c.self.inside.live) c.args.deleted.now (arc_value c.in_ok-live.live) c.self.inside.size (map arc_value c.self.inside.parts.items) (map arc_value c.in_ok-parts.parts.items) (map arc_value c.args.added.items) c.self.invariant (adds c) (more c) (most c))
 
 pub returns-clause-seen : goal.returns-clause-seen
 returns-clause-seen c =
-    added_docs c.self.inside.live c.args.deleted.now c.in_ok-live.live c.self.inside.size (map arc_value c.self.inside.parts.items) (map arc_value c.in_ok-parts.parts.items) (map arc_value c.args.added.items) c.self.invariant (adds c) (more c)
+    added_docs (arc_value c.self.inside.live) c.args.deleted.now (arc_value c.in_ok-live.live) c.self.inside.size (map arc_value c.self.inside.parts.items) (map arc_value c.in_ok-parts.parts.items) (map arc_value c.args.added.items) c.self.invariant (adds c) (more c)
     ∙ ap (λ (v : Indexed). extended v.seen c.args.deleted.now (map arc_value c.args.added.items)) c.self.view_is

@@ -12,13 +12,13 @@ use Rattle.segment_postings.proofs.view.View.live.Goals as goal
 pub returns-clause-numbers : goal.returns-clause-numbers
 returns-clause-numbers c =
     let parts = map arc_value c.self.inside.parts.items in
-    set_of_numbers c.self.inside.live (all_docs parts) (live_within c.self.inside.live c.self.inside.size parts c.self.invariant) ∙ ap (λ (v : Indexed). from_list (numbers v.seen)) c.self.view_is
+    c.deref.ensures ∙ set_of_numbers (arc_value c.self.inside.live) (all_docs parts) (live_within (arc_value c.self.inside.live) c.self.inside.size parts c.self.invariant) ∙ ap (λ (v : Indexed). from_list (numbers v.seen)) c.self.view_is
 
 pub returns-clause-numbered : goal.returns-clause-numbered
 returns-clause-numbered c =
     let parts = map arc_value c.self.inside.parts.items in
     let most : length (all_docs parts) ≤ MAX_DOCS = subst (λ n. n ≤ MAX_DOCS) c.self.invariant.size c.self.invariant.most in
-    subst (λ (v : Indexed). IsNumbered v.seen) c.self.view_is (numbered_is c.self.inside.live (all_docs parts) most)
+    subst (λ (v : Indexed). IsNumbered v.seen) c.self.view_is (numbered_is (arc_value c.self.inside.live) (all_docs parts) most)
 
 pub returns-clause-terms : goal.returns-clause-terms
-returns-clause-terms c = subst (λ (v : Indexed). AreTerms v.seen (terms_of v.keys)) c.self.view_is (terms_are c.self.inside.live (map arc_value c.self.inside.parts.items) c.self.invariant.lawful)
+returns-clause-terms c = subst (λ (v : Indexed). AreTerms v.seen (terms_of v.keys)) c.self.view_is (terms_are (arc_value c.self.inside.live) (map arc_value c.self.inside.parts.items) c.self.invariant.lawful)

@@ -21,7 +21,7 @@ packed-requires-clause-most c =
     subst (λ ys. length (all_docs (map arc_value ys)) ≤ MAX_DOCS) (sym c.as_slice-parts.ensures.value) (subst (λ n. n ≤ MAX_DOCS) c.self.invariant.size c.self.invariant.most)
 
 pub moved-requires : goal.moved-requires
-moved-requires c = is_packing c.self.inside.live c.self.inside.size (map arc_value c.self.inside.parts.items) c.args.at c.in_ok-packing.part.docs c.in_ok-packing.packing c.self.invariant (same_packs arc_value c.self.inside.live c.as_slice-parts.result.now c.self.inside.parts.items c.args.at c.in_ok-packing.part.docs c.in_ok-packing.packing c.as_slice-parts.ensures.value c.in_ok-packing.ensures.packs)
+moved-requires c = is_packing (arc_value c.self.inside.live) c.self.inside.size (map arc_value c.self.inside.parts.items) c.args.at c.in_ok-packing.part.docs c.in_ok-packing.packing c.self.invariant (same_packs arc_value (arc_value c.self.inside.live) c.as_slice-parts.result.now c.self.inside.parts.items c.args.at c.in_ok-packing.part.docs c.in_ok-packing.packing c.as_slice-parts.ensures.value c.in_ok-packing.ensures.packs)
 
 pub merged-requires-clause-both : goal.merged-requires-clause-both
 merged-requires-clause-both c =
@@ -32,15 +32,15 @@ merged-requires-clause-both c =
     omega (arith, keys, one, two, value, c.requires)
 
 pub overflow_sub-size : goal.overflow_sub-size
-overflow_sub-size c = (is_packing c.self.inside.live c.self.inside.size (map arc_value c.self.inside.parts.items) c.args.at c.in_ok-packing.part.docs c.in_ok-packing.packing c.self.invariant (same_packs arc_value c.self.inside.live c.as_slice-parts.result.now c.self.inside.parts.items c.args.at c.in_ok-packing.part.docs c.in_ok-packing.packing c.as_slice-parts.ensures.value c.in_ok-packing.ensures.packs)).few
+overflow_sub-size c = (is_packing (arc_value c.self.inside.live) c.self.inside.size (map arc_value c.self.inside.parts.items) c.args.at c.in_ok-packing.part.docs c.in_ok-packing.packing c.self.invariant (same_packs arc_value (arc_value c.self.inside.live) c.as_slice-parts.result.now c.self.inside.parts.items c.args.at c.in_ok-packing.part.docs c.in_ok-packing.packing c.as_slice-parts.ensures.value c.in_ok-packing.ensures.packs)).few
 
 pub overflow_sub-size-2 : goal.overflow_sub-size-2
-overflow_sub-size-2 c = let p = is_packing c.self.inside.live c.self.inside.size (map arc_value c.self.inside.parts.items) c.args.at c.in_ok-packing.part.docs c.in_ok-packing.packing c.self.invariant (same_packs arc_value c.self.inside.live c.as_slice-parts.result.now c.self.inside.parts.items c.args.at c.in_ok-packing.part.docs c.in_ok-packing.packing c.as_slice-parts.ensures.value c.in_ok-packing.ensures.packs) in omega (arith, p.few, p.within)
+overflow_sub-size-2 c = let p = is_packing (arc_value c.self.inside.live) c.self.inside.size (map arc_value c.self.inside.parts.items) c.args.at c.in_ok-packing.part.docs c.in_ok-packing.packing c.self.invariant (same_packs arc_value (arc_value c.self.inside.live) c.as_slice-parts.result.now c.self.inside.parts.items c.args.at c.in_ok-packing.part.docs c.in_ok-packing.packing c.as_slice-parts.ensures.value c.in_ok-packing.ensures.packs) in omega (arith, p.few, p.within)
 
 pub invariant_of-result : goal.invariant_of-result
 invariant_of-result c =
-    packed_view c.self.inside.live c.in_ok-live.live c.self.inside.size (map arc_value c.self.inside.parts.items) (map arc_value c.in_ok-parts.parts.items) c.args.at
-    c.in_ok-packing.part.docs c.in_ok-packing.packing c.self.invariant (same_packs arc_value c.self.inside.live c.as_slice-parts.result.now c.self.inside.parts.items c.args.at c.in_ok-packing.part.docs c.in_ok-packing.packing c.as_slice-parts.ensures.value c.in_ok-packing.ensures.packs) c.in_ok-live.ensures (same_merges arc_value c.as_slice-parts.result.now c.self.inside.parts.items (map arc_value c.in_ok-parts.parts.items) c.args.at c.in_ok-packing.part.docs c.as_slice-parts.ensures.value c.in_ok-parts.ensures)
+    packed_view (arc_value c.self.inside.live) (arc_value c.in_ok-live.live) c.self.inside.size (map arc_value c.self.inside.parts.items) (map arc_value c.in_ok-parts.parts.items) c.args.at
+    c.in_ok-packing.part.docs c.in_ok-packing.packing c.self.invariant (same_packs arc_value (arc_value c.self.inside.live) c.as_slice-parts.result.now c.self.inside.parts.items c.args.at c.in_ok-packing.part.docs c.in_ok-packing.packing c.as_slice-parts.ensures.value c.in_ok-packing.ensures.packs) c.in_ok-live.ensures (same_merges arc_value c.as_slice-parts.result.now c.self.inside.parts.items (map arc_value c.in_ok-parts.parts.items) c.args.at c.in_ok-packing.part.docs c.as_slice-parts.ensures.value c.in_ok-parts.ensures)
 
 pub returns : goal.returns
 returns c =
@@ -49,16 +49,16 @@ returns c =
     let stay = c.in_ok-packing.part.docs in
     let p = c.in_ok-packing.packing in
     let m = same_merges arc_value c.as_slice-parts.result.now c.self.inside.parts.items (map arc_value c.in_ok-parts.parts.items) c.args.at c.in_ok-packing.part.docs c.as_slice-parts.ensures.value c.in_ok-parts.ensures in
-    let is = same_packs arc_value c.self.inside.live c.as_slice-parts.result.now c.self.inside.parts.items c.args.at c.in_ok-packing.part.docs c.in_ok-packing.packing c.as_slice-parts.ensures.value c.in_ok-packing.ensures.packs in
+    let is = same_packs arc_value (arc_value c.self.inside.live) c.as_slice-parts.result.now c.self.inside.parts.items c.args.at c.in_ok-packing.part.docs c.in_ok-packing.packing c.as_slice-parts.ensures.value c.in_ok-packing.ensures.packs in
     let keys = ap (λ (v : Indexed). length v.keys) c.self.view_is in
     let old_keys = length-map old (λ (q : Part). q.keys) in
     let new_keys = length-map new (λ (q : Part). q.keys) in
-    let size = new_size c.self.inside.live c.self.inside.size old new c.args.at stay p c.self.invariant is m in
+    let size = new_size (arc_value c.self.inside.live) c.self.inside.size old new c.args.at stay p c.self.invariant is m in
     let seen = ap (λ (v : Indexed). v.seen.size) c.self.view_is in
     record {
-      docs = same_docs c.self.inside.live c.in_ok-live.live c.self.inside.size old new c.args.at stay p c.self.invariant is c.in_ok-live.ensures m ∙ ap (λ (v : Indexed). docs v.seen) c.self.view_is;
+      docs = same_docs (arc_value c.self.inside.live) (arc_value c.in_ok-live.live) c.self.inside.size old new c.args.at stay p c.self.invariant is c.in_ok-live.ensures m ∙ ap (λ (v : Indexed). docs v.seen) c.self.view_is;
       size = omega (arith, size, seen, c.self.invariant.size);
       segments = omega (arith, keys, old_keys, new_keys, m.fewer);
-      packed = subst (λ (v : Indexed). IsPacked v c.args.at (numbered c.in_ok-live.live (all_docs new))) c.self.view_is
-          (is_packed c.self.inside.live c.in_ok-live.live c.self.inside.size old new c.args.at stay p c.self.invariant is c.in_ok-live.ensures m);
+      packed = subst (λ (v : Indexed). IsPacked v c.args.at (numbered (arc_value c.in_ok-live.live) (all_docs new))) c.self.view_is
+          (is_packed (arc_value c.self.inside.live) (arc_value c.in_ok-live.live) c.self.inside.size old new c.args.at stay p c.self.invariant is c.in_ok-live.ensures m);
     }

@@ -21,7 +21,7 @@ add_postings-requires-clause-most c =
 
 pub add_postings-requires-clause-before : goal.add_postings-requires-clause-before
 add_postings-requires-clause-before c =
-    ends_before c.self.inside.live c.args.field c.args.key.now (map arc_value (take c.loop-part.part-index c.as_slice-parts.result.now)) c.loop-part.base c.loop-part.found.items c.loop-part.invariant
+    ends_before c.deref-live.result.now c.args.field c.args.key.now (map arc_value (take c.loop-part.part-index c.as_slice-parts.result.now)) c.loop-part.base c.loop-part.found.items c.loop-part.invariant
 
 pub overflow_add-base : goal.overflow_add-base
 overflow_add-base c =
@@ -39,15 +39,16 @@ loop-part-preserved c =
     let within : c.loop-part.part-index < length xs = omega arith in
     let ps = map arc_value (take c.loop-part.part-index xs) in
     let p = c.deref.result.now in
-    let step = gathers_part c.self.inside.live c.args.field c.args.key.now ps p c.loop-part.base c.loop-part.found.items c.add_postings.new.found.items c.loop-part.invariant c.in_ok-add_postings.ensures.found in
+    let step = gathers_part c.deref-live.result.now c.args.field c.args.key.now ps p c.loop-part.base c.loop-part.found.items c.add_postings.new.found.items c.loop-part.invariant c.in_ok-add_postings.ensures.found in
     let docs = sym (length-map c.docs.result.now arc_value) ∙ ap length c.docs.ensures.docs ∙ ap (λ (q : Part). length q.docs) (c.deref-in-loop-part.ensures ∙ sym c.deref.ensures) in
     let list = mapped_take arc_value xs c.loop-part.part-index c.part-item.result within c.part-item.is ∙ ap (λ (q : Part). ps ++ q ∷ []) (sym c.deref.ensures) in
-    subst (λ n. Gathered c.self.inside.live c.args.field c.args.key.now (map arc_value (take (c.loop-part.part-index + 1) xs)) (c.loop-part.base + n) c.add_postings.new.found.items) (sym docs)
-    (subst (λ qs. Gathered c.self.inside.live c.args.field c.args.key.now qs (c.loop-part.base + length p.docs) c.add_postings.new.found.items) (sym list) step)
+    subst (λ n. Gathered c.deref-live.result.now c.args.field c.args.key.now (map arc_value (take (c.loop-part.part-index + 1) xs)) (c.loop-part.base + n) c.add_postings.new.found.items) (sym docs)
+    (subst (λ qs. Gathered c.deref-live.result.now c.args.field c.args.key.now qs (c.loop-part.base + length p.docs) c.add_postings.new.found.items) (sym list) step)
 
 pub returns : goal.returns
 returns c =
     let xs = c.as_slice-parts.result.now in
     c.loop-part.invariant.is
-    ∙ ap (λ ys. filter_map (posting_of c.args.field c.args.key.now) (filter (λ e. contains c.self.inside.live e.0) (enumerate_from 0 (all_docs (map arc_value ys))))) (take_all c.loop-part.part-index xs c.loop-part-test.false ∙ c.as_slice-parts.ensures.value)
+    ∙ ap (λ ys. filter_map (posting_of c.args.field c.args.key.now) (filter (λ e. contains c.deref-live.result.now e.0) (enumerate_from 0 (all_docs (map arc_value ys))))) (take_all c.loop-part.part-index xs c.loop-part-test.false ∙ c.as_slice-parts.ensures.value)
+    ∙ ap (λ live. filter_map (posting_of c.args.field c.args.key.now) (filter (λ e. contains live e.0) (enumerate_from 0 (all_docs (map arc_value c.self.inside.parts.items))))) c.deref-live.ensures
     ∙ ap (λ (v : Indexed). postings_of v.seen c.args.field c.args.key.now) c.self.view_is
