@@ -140,11 +140,6 @@ prefix_found p field v sound =
     any_or (takes (Strings p)) (takes (Tokens p)) (keys_in d.values field)
     ∙ (λ i. list_any (λ k. either_prefix p k i) (keys_in d.values field)))
 
--- ---- numbers behind none
-
-pub only_added : (start more : List ℕ) (ps : List Posting) → start ≡ [] → more ≡ start ++ map (λ p. p.doc) ps → more ≡ map (λ p. p.doc) ps
-only_added start more ps e h = h ∙ ap (λ ns. ns ++ map (λ p. p.doc) ps) e
-
 -- ---- queries of parts
 
 module _ (v : Numbered) (q : Query) (must should not_ : List Query) (e : q ≡ query.Bool must should not_) (sound : IsNumbered v) where

@@ -7,7 +7,7 @@ ghost use Rattle.query_eval.specs.Found.{Finds, Adds};
 ghost use Rattle.query_eval.specs.Kept.{Kept, IsSound};
 ghost use Rattle.query_eval.specs.Spans.{is_within, has_taken, taken_keys, IsParted};
 
-use crate::numbers::{add_numbers, set_of};
+use crate::numbers::set_of;
 use crate::span::Span;
 use doc_sets::{DocNo, DocSet};
 use field_schema::{FieldNo, Key, NoMemory, Text};
@@ -32,9 +32,8 @@ pub(crate) fn term<P: Reads>(
     ensures kept { Kept P.view P.terms P.counted probe.old probe.new }
     ensures asked { (P.counted probe.new).postings ≡ raised (P.counted probe.old).postings }
 {
-    let postings = probe.postings(alloc, field, key)?;
-    let mut numbers = Vec::with_capacity(alloc, postings.len())?;
-    add_numbers(&mut numbers, postings.as_slice())?;
+    let mut numbers = Vec::new(alloc);
+    probe.add_numbers(&mut numbers, field, key)?;
     let Ok(all) = DocSet::from_sorted(alloc, numbers.as_slice()) else {
         return Err(NoMemory);
     };
@@ -93,7 +92,7 @@ fn walk<P: Reads>(
     'pieces: loop {
         let mut piece = probe.terms_from(alloc, field, &from, most)?;
         let next = next_of(&mut piece, most);
-        add_piece(alloc, probe, numbers, field, piece.as_slice(), span)?;
+        add_piece(probe, numbers, field, piece.as_slice(), span)?;
         let Some(key) = next else {
             return Ok(());
         };
@@ -118,7 +117,6 @@ fn next_of(piece: &mut Vec<Key>, most: u32) -> Option<Key>
 
 // Adds the numbers of the documents that have one of the keys that the span takes.
 fn add_piece<P: Reads>(
-    alloc: Global,
     probe: &mut P,
     numbers: &mut Vec<DocNo>,
     field: FieldNo,
@@ -131,8 +129,7 @@ fn add_piece<P: Reads>(
 {
     for key in keys {
         if span.takes(key) {
-            let postings = probe.postings(alloc, field, key)?;
-            add_numbers(numbers, postings.as_slice())?;
+            probe.add_numbers(numbers, field, key)?;
         }
     }
     Ok(())

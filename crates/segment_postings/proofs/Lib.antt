@@ -13,3 +13,4 @@ pub mod Packed
 pub mod Laying
 pub mod MovedPlaces
 pub mod TermWalks
+pub mod NumbersGathered

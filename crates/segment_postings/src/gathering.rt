@@ -2,6 +2,7 @@
 ghost use Rattle.std.specs.Prelude.{◌≡◌, ℕ, ◌+◌, ◌<◌, List, ◌∷◌, ◌++◌, [], IfOk, OnOk, All};
 ghost use Rattle.doc_sets.specs.declared.TheConstants.{MAX_DOCS};
 ghost use Rattle.segment_postings.specs.Groups.{has_places, gathered, gather_one, put_place, told_at};
+ghost use Rattle.segment_postings.specs.Groups.{numbers_at, told_number, next_last};
 
 use crate::occurrence::Place;
 use crate::posting::{Places, Posting};
@@ -27,6 +28,41 @@ pub(crate) fn gather(
         add(alloc, found, live, base, told, *place)?;
     }
     Ok(())
+}
+
+/// Adds the numbers of the live documents that places stand in, of which the first document has the number `base`.
+/// It costs the number of places.
+pub(crate) fn add_numbers(
+    found: &mut Vec<DocNo>,
+    live: &DocSet,
+    base: DocNo,
+    places: &[Place],
+) -> Result<(), NoMemory>
+    requires { All (λ p. base + p.doc < MAX_DOCS) places.now }
+    ensures { OnOk result (found.new.items ≡ found.old.items ++ numbers_at live.now base places.now) }
+{
+    let mut last = None;
+    for place in places {
+        last = add_number(found, live, last, base + place.doc)?;
+    }
+    Ok(())
+}
+
+// Adds a number, where its document is live and it is not the last one; and the last number then.
+fn add_number(
+    found: &mut Vec<DocNo>,
+    live: &DocSet,
+    last: Option<DocNo>,
+    number: DocNo,
+) -> Result<Option<DocNo>, NoMemory>
+    ensures found { IfOk result (λ l. found.new.items ≡ found.old.items ++ told_number live.now last number) }
+    ensures last { IfOk result (λ l. l ≡ next_last live.now last number) }
+{
+    if !live.has(number) || last == Some(number) {
+        return Ok(last);
+    }
+    found.push(number)?;
+    Ok(Some(number))
 }
 
 // Adds what is told of a place, where its document is live.

@@ -58,6 +58,16 @@ impl<'a> Reads for Probe<'a> {
         self.view.postings(alloc, field, key)
     }
 
+    fn add_numbers(
+        &mut self,
+        found: &mut Vec<DocNo>,
+        field: FieldNo,
+        key: &Key,
+    ) -> Result<(), NoMemory> {
+        self.counts.postings = self.counts.postings.saturating_add(1);
+        self.view.add_numbers(found, field, key)
+    }
+
     fn terms_from(
         &mut self,
         alloc: Global,

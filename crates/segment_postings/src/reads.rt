@@ -1,4 +1,4 @@
-ghost use Rattle.std.specs.Prelude.{◌≡◌, ℕ, ◌≤◌, List, IfOk, Some};
+ghost use Rattle.std.specs.Prelude.{◌≡◌, ℕ, ◌≤◌, ◌++◌, List, IfOk, OnOk, Some, map};
 ghost use Rattle.std.specs.FinSet as set;
 ghost use Rattle.std.specs.Arc.{arc_value};
 ghost use Rattle.std.specs.Option.{option_and_then};
@@ -17,8 +17,8 @@ use std::sync::Arc;
 
 /// What an evaluation reads of a view.
 ///
-/// No call changes the view or its terms. `postings` and `terms_from` raise the first count by one, `value` the
-/// second and `stored` the third, also where memory is wanting; a count at its greatest number stays.
+/// No call changes the view or its terms. `postings`, `add_numbers` and `terms_from` raise the first count by one, `value`
+/// the second and `stored` the third, also where memory is wanting; a count at its greatest number stays.
 pub trait Reads {
     /// The view that is read.
     ghost view: { Self → Numbered };
@@ -48,6 +48,22 @@ pub trait Reads {
         key: &Key,
     ) -> Result<Vec<Posting>, NoMemory>
         ensures postings { IfOk result (λ p. p.items ≡ postings_of (view self.old) field key.now) }
+        ensures view { view self.new ≡ view self.old }
+        ensures terms { terms self.new ≡ terms self.old }
+        ensures postings_count { (counted self.new).postings ≡ raised (counted self.old).postings }
+        ensures values_count { (counted self.new).values ≡ (counted self.old).values }
+        ensures stored_count { (counted self.new).stored ≡ (counted self.old).stored };
+
+    /// Adds the numbers of the live documents that have a key in a field, ascending, behind others. It asks for the key's
+    /// postings, and makes none. Fails only for want of memory.
+    fn add_numbers(
+        &mut self,
+        found: &mut Vec<DocNo>,
+        field: FieldNo,
+        key: &Key,
+    ) -> Result<(), NoMemory>
+        ensures numbers { OnOk result (found.new.items ≡ found.old.items
+            ++ map (λ p. p.doc) (postings_of (view self.old) field key.now)) }
         ensures view { view self.new ≡ view self.old }
         ensures terms { terms self.new ≡ terms self.old }
         ensures postings_count { (counted self.new).postings ≡ raised (counted self.old).postings }

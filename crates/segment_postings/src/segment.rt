@@ -10,7 +10,7 @@ ghost use Rattle.segment_postings.specs.Groups.{EndsBefore};
 ghost use Rattle.segment_postings.specs.Views.{live_from};
 ghost use Rattle.segment_postings.specs.Renumbering.{AreJoined};
 
-use crate::gathering::gather;
+use crate::gathering::{add_numbers, gather};
 use crate::laid::Laid;
 use crate::occurrence::{Place, index};
 use crate::packing::add_live;
@@ -117,6 +117,26 @@ impl Segment {
     {
         let places = places_in(self.fields.as_slice(), field, key);
         gather(alloc, found, live, base, key, places)?;
+        Ok(())
+    }
+
+    /// Adds the numbers of the live documents with a key, of which the first has the number `base`.
+    ///
+    /// It costs the logarithm of the number of the field's keys, and the key's places.
+    pub fn add_numbers(
+        &self,
+        found: &mut Vec<DocNo>,
+        live: &DocSet,
+        base: DocNo,
+        field: FieldNo,
+        key: &Key,
+    ) -> Result<(), NoMemory>
+        requires { base + length self.now.docs ≤ MAX_DOCS }
+        ensures { OnOk result (found.new.items ≡ found.old.items
+            ++ map (λ p. p.doc) (postings_among live.now base field key.now self.now.docs)) }
+    {
+        let places = places_in(self.fields.as_slice(), field, key);
+        add_numbers(found, live, base, places)?;
         Ok(())
     }
 

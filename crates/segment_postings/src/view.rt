@@ -164,6 +164,26 @@ impl View {
         Ok(found)
     }
 
+    // Adds the numbers of the live documents with a key in a field.
+    pub(crate) fn add_numbers(
+        &self,
+        found: &mut Vec<DocNo>,
+        field: FieldNo,
+        key: &Key,
+    ) -> Result<(), NoMemory>
+        ensures { OnOk result (found.new.items ≡ found.old.items
+            ++ map (λ p. p.doc) (postings_of self.now.seen field key.now)) }
+    {
+        let live: &DocSet = &self.live;
+        let mut base = 0;
+        let parts = self.parts.as_slice();
+        for part in parts {
+            part.add_numbers(found, live, base, field, key)?;
+            base += part.docs().len() as u32;
+        }
+        Ok(())
+    }
+
     // The first of the field's terms at or after a key.
     pub(crate) fn terms_from(
         &self,
