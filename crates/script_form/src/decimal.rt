@@ -1,8 +1,9 @@
 ghost use Rattle.std.specs.Prelude.{◌≡◌};
 ghost use Rattle.script_form.specs.Decimals.{are_digits as are_decimal_digits, decimal_within as number_within, is_decimal as is_decimal_text};
 
-// The number that a text writes in decimal without a leading zero, where it is one from `low` to `high`.
-pub(crate) fn decimal_within(text: &str, low: u32, high: u32) -> Option<u32>
+/// The number that a text writes in decimal, without a sign or a leading zero, where it is one from `low` to `high`. It takes
+/// no memory.
+pub fn decimal_within(text: &str, low: u32, high: u32) -> Option<u32>
     ensures { result ≡ number_within low high text.now }
 {
     if !is_decimal(text) {
