@@ -16,6 +16,7 @@ use Rattle.query_tree.specs.KeysOfDocs.{keys_of_value}
 use Rattle.query_tree.specs.Matches.{stand_in, has_words, is_empty}
 use Rattle.segment_postings.specs.declared.posting.Posting.{Posting}
 use Rattle.segment_postings.specs.Postings.{indices_of, places_in, has_key_at, posting_of}
+use Rattle.segment_postings.proofs.PostingsGathered.{any_place}
 use Rattle.query_eval.specs.Found.{numbers_where}
 use Rattle.query_eval.specs.Runs.{same_place, is_place, is_place_in, followed_by, filled_numbers}
 use Rattle.query_eval.proofs.Verdicts.{and_false, or_false, doc_of, verdict, passes, absent, settle}
@@ -310,6 +311,20 @@ phrase_test field w ws d =
     (λ h. (and_parts (has_key_at field (key.Token w) d) (list_any q (places_in (key.Token w) values)) h).1)
     (λ h. and_from _ _ (place_has_key (key.Token w) q field d h) h)
     ∙ some_start values w ws
+
+-- a word alone stands in a text of the document where this has it as a key
+pub word_alone : (field : ℕ) (w : List ℕ) (d : Document) → has_key_at field (key.Token w) d ≡ (not (is_empty (w ∷ [])) && list_any (has_words (w ∷ [])) (values_at d.values field))
+word_alone field w d =
+    let places : List (ℕ × ℕ) = places_in (key.Token w) (values_at d.values field) in
+    let has : has_key_at field (key.Token w) d ≡ not (is_empty places) = any_place (key.Token w) 0 (values_at d.values field) in
+    (elim (has_key_at field (key.Token w) d) as (λ b. b ≡ (b && b)) [ true ↦ refl | false ↦ refl ])
+    ∙ (λ i. has_key_at field (key.Token w) d && has i)
+    ∙ ap (λ ps. has_key_at field (key.Token w) d && not (is_empty ps)) (sym (all_kept places))
+    ∙ phrase_test field w [] d
+  where
+    all_kept : (ps : List (ℕ × ℕ)) → filter (λ p. true) ps ≡ ps
+    all_kept [] = refl
+    all_kept (p ∷ ps) = ap (λ xs. p ∷ xs) (all_kept ps)
 
 pub phrase_numbers : (field : ℕ) (w : List ℕ) (ws : List (List ℕ)) (list : List (ℕ × Document)) → filled_numbers (runs field w ws list) ≡ numbers_where (λ d. not (is_empty (w ∷ ws)) && list_any (has_words (w ∷ ws)) (values_at d.values field)) list
 phrase_numbers field w ws list = filled_where field w ws list ∙ (λ i. numbers_where (λ d. phrase_test field w ws d i) list)

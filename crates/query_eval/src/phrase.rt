@@ -1,5 +1,5 @@
 //! Phrases, by the places of their words.
-ghost use Rattle.std.specs.Prelude.{◌≡◌, ◌+◌, IfOk, map, filter};
+ghost use Rattle.std.specs.Prelude.{◌≡◌, ◌+◌, ◌∷◌, [], IfOk, map, filter};
 ghost use Rattle.segment_postings.specs.Postings.{postings_of};
 ghost use Rattle.field_schema.specs.declared.key.Key.TheVariants as key;
 ghost use Rattle.query_eval.specs.Found.{Finds};
@@ -9,13 +9,50 @@ ghost use Rattle.query_eval.specs.Runs.{followed_by, is_place, same_place, is_ah
 ghost use Rattle.query_eval.specs.Runs.{starts_here, begins_at, filled_numbers};
 ghost use Rattle.query_eval.specs.Runs.{DocsRise, PlacesRise, AllPlacesRise};
 
+use crate::walk::term;
 use doc_sets::{DocNo, DocSet};
 use field_schema::{FieldNo, Key, NoMemory, Text};
 use segment_postings::{Places, Posting, Reads};
 use std::alloc::Global;
 
-// The documents in one of whose texts the words stand in turn. It walks the words' postings once each.
+// The documents in one of whose texts the words stand in turn. A word alone is asked for without its places.
 pub(crate) fn phrase<P: Reads>(
+    alloc: Global,
+    probe: &mut P,
+    field: FieldNo,
+    words: &[Text],
+) -> Result<DocSet, NoMemory>
+    requires { IsSound (P.view probe.old) (P.terms probe.old) }
+    ensures found { Finds result (λ d. says_words d.values field words.now) (P.view probe.old) }
+    ensures kept { Kept P.view P.terms P.counted probe.old probe.new }
+{
+    match words {
+        [word] => {
+            let found = alone(alloc, probe, field, word)?;
+            Ok(found)
+        }
+        _ => in_turn(alloc, probe, field, words),
+    }
+}
+
+// The documents that have a word.
+fn alone<P: Reads>(
+    alloc: Global,
+    probe: &mut P,
+    field: FieldNo,
+    word: &Text,
+) -> Result<DocSet, NoMemory>
+    requires { IsSound (P.view probe.old) (P.terms probe.old) }
+    ensures found { Finds result (λ d. says_words d.values field (word.now ∷ [])) (P.view probe.old) }
+    ensures kept { Kept P.view P.terms P.counted probe.old probe.new }
+{
+    let key = Key::Token(word.copy(alloc)?);
+    let found = term(alloc, probe, field, &key)?;
+    Ok(found)
+}
+
+// The documents in one of whose texts the words stand in turn. It walks the words' postings once each.
+fn in_turn<P: Reads>(
     alloc: Global,
     probe: &mut P,
     field: FieldNo,

@@ -1,7 +1,7 @@
 use Rattle.std.proofs.Common.{◌≡◌}
 use Rattle.query_eval.specs.Kept.{Kept}
 use Rattle.query_eval.proofs.Phrases.{runs_upto}
-use Rattle.query_eval.proofs.phrase.phrase.Given as goal
+use Rattle.query_eval.proofs.phrase.in_turn.Given as goal
 
 abbrev pub invariant-loop-i : goal.invariant-loop-i
 invariant-loop-i g l =
