@@ -10,3 +10,4 @@ pub mod Parts
 pub mod Steps
 pub mod Places
 pub mod PhraseSteps
+pub mod MarkedNumbers

@@ -2,6 +2,7 @@
 #![tactic(auto)]
 
 mod evaluating;
+mod marks;
 mod matching;
 mod numbers;
 mod phrase;
