@@ -1,21 +1,22 @@
 -- Executing keeps the rule: the call in hand has its entry, which its caller's pass does not know yet.
-use Rattle.std.proofs.Common.{◌≡◌, ◌≢◌, ℕ, ◌≤◌, true, cond, List, [], ◌∷◌, ◌++◌, append-nil, set, sym, refl, ap, ◌∙◌, subst, inr, ⊎_elim, length-set, eq-eqb, ne_eqb, Option, Some, None}
+use Rattle.std.proofs.Common.{◌≡◌, ◌≢◌, ℕ, ◌<◌, ◌≤◌, true, false, Bool, cond, List, length, [], ◌∷◌, ◌++◌, append-nil, set, sym, refl, ap, ◌∙◌, subst, inr, ⊎_elim, length-set, eq-eqb, ne_eqb, Option, Some, None}
 use mathlib.Core.Option.{some}
 use mathlib.Core.Option as maybe
 use mathlib.Core.Logic.{dite}
 use native.Mathlib.Decide.{ℕ_discrete}
-use Rattle.std.specs.Prelude.{slice_index}
+use Rattle.std.specs.Prelude.{◌==◌, slice_index}
 use Rattle.std.proofs.lemmas.Option.{same_Some, none-some}
 use Rattle.atomic_table.specs.Table.{Me, Allows, keeps, step, stepped}
 use Rattle.registry_machine.specs.declared.entry.Entry.{Entry}
-use Rattle.registry_machine.specs.declared.entry.Entry.TheVariants.{Update}
-use Rattle.registry_machine.specs.Entries.{caller_of}
+use Rattle.registry_machine.specs.declared.entry.Entry.TheVariants.{TooMany, GenerationsSpent}
+use Rattle.registry_machine.specs.Entries.{caller_of, has_place}
 use Rattle.registry_machine.specs.Callers.{mine}
-use Rattle.registry_machine.specs.Machine.{Limits, start, is_some_of}
+use Rattle.registry_machine.specs.Machine.{Limits, State, start, is_some_of, after}
 use Rattle.registry_machine.specs.Legal.{IsAllowed, Legal, state_of}
 use Rattle.registry_machine.proofs.Runs.{joined as runs_join}
 use Rattle.searcher_table.specs.declared.board.Asked.{Asked}
-use Rattle.searcher_table.specs.declared.board.Call.TheVariants.{Update as ToUpdate}
+use Rattle.searcher_table.specs.declared.board.Call.{Call}
+use Rattle.searcher_table.specs.declared.board.Call.TheVariants.{Open as ToOpen, Update as ToUpdate}
 use Rattle.searcher_table.specs.declared.board.Cell.{Cell}
 use Rattle.searcher_table.specs.declared.board.Plan.{Plan}
 use Rattle.searcher_table.specs.declared.board.Hand.{Hand}
@@ -24,9 +25,10 @@ use Rattle.searcher_table.specs.declared.board.Known.{Known}
 use Rattle.searcher_table.specs.Words.{call_word, code_of, code, limits}
 use Rattle.searcher_table.specs.Views.{Answers, IsStill, WasExecuted, GoesOn, HasNoPlaceSince}
 use Rattle.searcher_table.specs.Rule.{World, IsPass, IsHand, IsRegistrar, IsBack, Kept}
-use Rattle.searcher_table.specs.Steps.{looked, HasExecuted, Executed}
+use Rattle.searcher_table.specs.Steps.{answer_of, looked, HasExecuted, Executed}
 use Rattle.searcher_table.proofs.Frame.{put, put_here, put_else, moved, Leaves, starts_later, own_joined, all_map, one_after, covers}
 use Rattle.searcher_table.proofs.Handing.{calls_after, other_hand}
+use Rattle.searcher_table.proofs.Quiet.{HasSameOpenings, quiet_since}
 
 module _ {U X L : Type 0} where
   -- a caller's own entry is one more, and another's is none
@@ -78,6 +80,43 @@ module _ {U X L : Type 0} (w : World U X L) (h : Hand U) (e : Entry U X L) (answ
 abbrev pub MayCome : {W U X L : Type 0} → Plan W → Known W U X L → Entry U X L → Type 0
 MayCome {W} {U} {X} {L} p k e = (log : List (Entry U X L)) → HasNoPlaceSince log k.seen → IsAllowed (limits p) (state_of (limits p) log) e
 
+-- the entry of a call that opens nothing: it leaves the registry as it was, and stays allowed while no entry has a place
+pub record IsAnswer {W U X L : Type 0} (p : Plan W) (h : Hand U) (e : Entry U X L) : Type 0 where
+  pub answers : Answers h.caller h.asked e
+  pub placed : has_place e ≡ true
+  pub still : (s : State) → HasSameOpenings s (after s e)
+  pub lasting : (s t : State) → HasSameOpenings s t → IsAllowed (limits p) s e → IsAllowed (limits p) t e
+
+module _ {W U X L : Type 0} (p : Plan W) (h : Hand U) where
+  too_many : (gs : List ℕ) → h.asked.call ≡ ToOpen → IsAnswer {X = X} {L = L} p h (TooMany h.caller h.asked.content gs)
+  too_many gs is = record {
+    answers = record { caller = refl; content = refl; call = ap (λ x. Some x) (sym is) };
+    placed = refl;
+    still = λ _. record { last = refl; warming = refl; free = λ _ e. e };
+    lasting = λ s t o a. record { full = ap length o.warming ∙ a.full; told = a.told ∙ sym o.warming };
+  }
+
+  spent : h.asked.call ≡ ToOpen → IsAnswer {X = X} {L = L} p h (GenerationsSpent h.caller h.asked.content)
+  spent is = record {
+    answers = record { caller = refl; content = refl; call = ap (λ x. Some x) (sym is) };
+    placed = refl;
+    still = λ _. record { last = refl; warming = refl; free = λ _ e. e };
+    lasting = λ s t o a. record { room = subst (λ (gs : List ℕ). length gs < p.max_warming) (sym o.warming) a.room; last = o.last ∙ a.last };
+  }
+
+  refusal : (gs : List ℕ) → h.asked.call ≡ ToOpen → (b : Bool) → IsAnswer {X = X} {L = L} p h (cond b (TooMany h.caller h.asked.content gs) (GenerationsSpent h.caller h.asked.content))
+  refusal gs is true = too_many gs is
+  refusal gs is false = spent is
+
+pub is_answer : {W U X L : Type 0} (p : Plan W) (seen : List (Entry U X L)) (h : Hand U) (call : Call) → h.asked.call ≡ call → IsAnswer p h (answer_of call p seen h)
+is_answer p seen h ToUpdate is = record {
+  answers = record { caller = refl; content = refl; call = ap (λ x. Some x) (sym is) };
+  placed = refl;
+  still = λ _. record { last = refl; warming = refl; free = λ _ e. e };
+  lasting = λ s t o a. tt;
+}
+is_answer p seen h ToOpen is = let gs : List ℕ = (state_of (limits p) seen).warming in refusal p h gs is (length gs == p.max_warming)
+
 module _ {D W U X L : Type 0} (p : Plan W) where
   pub executes : (slots id : ℕ) (me : Me (Cell D U) (Known W U X L)) (i : ℕ) (f : ℕ → ℕ) (h : Hand U) (e : Entry U X L) → i ≡ call_word h.caller → 1 ≤ h.caller → h.caller ≤ 64 → f (code_of h.asked.call) ≡ 0 → me.0.hand ≡ Some h → me.0.registrar ≡ true
       → Answers h.caller h.asked e → MayCome p me.0 e
@@ -119,11 +158,12 @@ module _ {D W U X L : Type 0} (p : Plan W) where
         },
       )
 
-  -- an update may come at any time
-  pub updates : (slots id : ℕ) (me : Me (Cell D U) (Known W U X L)) (i : ℕ) (h : Hand U) → i ≡ call_word h.caller → 1 ≤ h.caller → h.caller ≤ 64 → me.0.hand ≡ Some h → me.0.registrar ≡ true
-      → h.asked.call ≡ ToUpdate → Allows (Kept p) slots id me i (λ _. 0) (λ _. Executed (step slots i 0 0 maybe.none) me 0)
-  updates slots id me i h at_word low few has role is =
-      executes slots id me i (λ _. 0) h (Update h.caller h.asked.content) at_word low few refl has role
-      record { caller = refl; content = refl; call = ap (λ x. Some x) (sym is) } (λ _ _. tt)
+  -- a call that opens nothing has its entry, which may come next after what the registrar has seen
+  pub answers : (slots id : ℕ) (me : Me (Cell D U) (Known W U X L)) (i : ℕ) (h : Hand U) → i ≡ call_word h.caller → 1 ≤ h.caller → h.caller ≤ 64 → me.0.hand ≡ Some h → me.0.registrar ≡ true → me.0.plan ≡ Some p
+      → IsAllowed (limits p) (state_of (limits p) me.0.seen) (answer_of h.asked.call p me.0.seen h) → Allows (Kept p) slots id me i (λ _. 0) (λ _. Executed (step slots i 0 0 maybe.none) me 0)
+  answers slots id me i h at_word low few has role told may =
+      let a = is_answer p me.0.seen h h.asked.call refl in
+      executes slots id me i (λ _. 0) h (answer_of h.asked.call p me.0.seen h) at_word low few refl has role a.answers
+      (λ log q. a.lasting (state_of (limits p) me.0.seen) (state_of (limits p) log) (quiet_since (limits p) log me.0.seen q) may)
       (λ _ new. Executed (step slots i 0 0 maybe.none) me 0 new)
-      (λ _ new done g e. subst (λ (x : Hand U). HasExecuted (Update x.caller x.asked.content) me new) (same_Some h g (sym has ∙ e)) done)
+      (λ _ new done g r e t. subst (λ (x : Hand U × Plan W). HasExecuted (answer_of x.0.asked.call x.1 me.0.seen x.0) me new) (λ j. (same_Some h g (sym has ∙ e) j, same_Some p r (sym told ∙ t) j)) done)

@@ -1,4 +1,4 @@
--- Executing an opening keeps the rule: it opens the next generation, or is refused as too many or for spent generations.
+-- Executing an opening keeps the rule: it opens the next generation.
 use Rattle.std.proofs.Common.{◌≡◌, ℕ, ◌+◌, ◌<◌, ◌≤◌, List, length, true, sym, refl, ap, ◌∙◌, subst, arith, Some, None}
 use mathlib.Core.Option.{some}
 use mathlib.Core.Option as maybe
@@ -7,7 +7,6 @@ use Rattle.std.specs.Prelude.{◌==◌}
 use Rattle.std.proofs.lemmas.Option.{same_Some}
 use Rattle.atomic_table.specs.Table.{Me, Allows, step}
 use Rattle.registry_machine.specs.declared.entry.Entry.{Entry}
-use Rattle.registry_machine.specs.declared.entry.Entry.TheVariants.{TooMany, GenerationsSpent}
 use Rattle.registry_machine.specs.Legal.{state_of}
 use Rattle.searcher_table.specs.declared.board.Call.TheVariants.{Open as ToOpen}
 use Rattle.searcher_table.specs.declared.board.Cell.{Cell}
@@ -17,7 +16,7 @@ use Rattle.searcher_table.specs.declared.board.Hand.{Hand}
 use Rattle.searcher_table.specs.declared.board.Known.{Known}
 use Rattle.searcher_table.specs.Words.{call_word, code_of, limits, last_generation}
 use Rattle.searcher_table.specs.Rule.{Kept}
-use Rattle.searcher_table.specs.Steps.{opening_of, HasExecuted, RefusedTooMany, RefusedSpent, Opened}
+use Rattle.searcher_table.specs.Steps.{opening_of, HasExecuted, Opened}
 use Rattle.searcher_table.proofs.Quiet.{quiet_since}
 use Rattle.searcher_table.proofs.Execute.{executes}
 
@@ -27,31 +26,6 @@ door_or d (maybe.some (Full e)) = e
 door_or d _ = d
 
 module _ {D W U X L : Type 0} (p : Plan W) where
-  -- an opening is refused as too many where as many are warming as may be
-  pub refuses_too_many : (slots id : ℕ) (me : Me (Cell D U) (Known W U X L)) (i : ℕ) (h : Hand U) → i ≡ call_word h.caller → 1 ≤ h.caller → h.caller ≤ 64 → me.0.hand ≡ Some h → me.0.registrar ≡ true → me.0.plan ≡ Some p
-      → h.asked.call ≡ ToOpen → length (state_of (limits p) me.0.seen).warming ≡ p.max_warming → Allows (Kept p) slots id me i (λ _. 0) (λ _. RefusedTooMany (step slots i 0 0 maybe.none) me 0)
-  refuses_too_many slots id me i h at_word low few has role told is full =
-      let l = limits p in
-      let gs : List ℕ = (state_of l me.0.seen).warming in
-      executes p slots id me i (λ _. 0) h (TooMany h.caller h.asked.content gs) at_word low few refl has role
-      record { caller = refl; content = refl; call = ap (λ x. Some x) (sym is) }
-      (λ log q. let o = quiet_since l log me.0.seen q in record { full = ap length o.warming ∙ full; told = sym o.warming })
-      (λ _ new. RefusedTooMany (step slots i 0 0 maybe.none) me 0 new)
-      (λ _ new done g r e t. subst (λ (x : Hand U × Plan W). HasExecuted (TooMany x.0.caller x.0.asked.content (state_of (limits x.1) me.0.seen).warming) me new)
-      (λ j. (same_Some h g (sym has ∙ e) j, same_Some p r (sym told ∙ t) j)) done)
-
-  -- and for spent generations where there is room and the last one was opened
-  pub refuses_spent : (slots id : ℕ) (me : Me (Cell D U) (Known W U X L)) (i : ℕ) (h : Hand U) → i ≡ call_word h.caller → 1 ≤ h.caller → h.caller ≤ 64 → me.0.hand ≡ Some h → me.0.registrar ≡ true
-      → h.asked.call ≡ ToOpen → length (state_of (limits p) me.0.seen).warming < p.max_warming → (state_of (limits p) me.0.seen).last_opened ≡ last_generation
-      → Allows (Kept p) slots id me i (λ _. 0) (λ _. RefusedSpent (step slots i 0 0 maybe.none) me 0)
-  refuses_spent slots id me i h at_word low few has role is room last =
-      let l = limits p in
-      executes p slots id me i (λ _. 0) h (GenerationsSpent h.caller h.asked.content) at_word low few refl has role
-      record { caller = refl; content = refl; call = ap (λ x. Some x) (sym is) }
-      (λ log q. let o = quiet_since l log me.0.seen q in record { room = subst (λ (gs : List ℕ). length gs < p.max_warming) (sym o.warming) room; last = o.last ∙ last })
-      (λ _ new. RefusedSpent (step slots i 0 0 maybe.none) me 0 new)
-      (λ _ new done g e. subst (λ (x : Hand U). HasExecuted (GenerationsSpent x.caller x.asked.content) me new) (same_Some h g (sym has ∙ e)) done)
-
   -- an opening has the next generation, in the slot behind those of the warming ones
   pub opens_next : (docs : D → X) (slots id : ℕ) (me : Me (Cell D U) (Known W U X L)) (i : ℕ) (h : Hand U) (door : D) → i ≡ call_word h.caller → 1 ≤ h.caller → h.caller ≤ 64 → me.0.hand ≡ Some h → me.0.registrar ≡ true → me.0.plan ≡ Some p
       → h.asked.call ≡ ToOpen → length (state_of (limits p) me.0.seen).warming < p.max_warming → (state_of (limits p) me.0.seen).last_opened < last_generation

@@ -1,20 +1,25 @@
 -- What a step tells of a registrar.
-use Rattle.std.proofs.Common.{◌≡◌, ℕ, ◌+◌, ◌≤◌, true, cond, List, [], ◌∷◌, ◌++◌, length, length-append, ne_eqb, count_by, sym, ap, ◌∙◌, subst, arith, Option, Some, None}
+use Rattle.std.proofs.Common.{◌≡◌, ◌≢◌, ℕ, ◌+◌, ◌<◌, ◌≤◌, true, cond, List, [], ◌∷◌, ◌++◌, length, length-append, eq-eqb, ne_eqb, count_by, sym, ap, ◌∙◌, subst, arith, Option, Some, None}
 use Rattle.atomic_table.specs.Table.{Me}
 use Rattle.registry_machine.specs.declared.entry.Entry.{Entry}
+use Rattle.registry_machine.specs.declared.entry.Entry.TheVariants.{TooMany, GenerationsSpent, Update}
 use Rattle.registry_machine.specs.Entries.{has_place}
 use Rattle.registry_machine.specs.Machine.{State, after}
 use Rattle.registry_machine.specs.Legal.{Legal, state_of}
+use Rattle.searcher_table.specs.declared.board.Call.TheVariants.{Open as ToOpen, Update as ToUpdate}
 use Rattle.searcher_table.specs.declared.board.Asked.{Asked}
 use Rattle.searcher_table.specs.declared.board.Cell.{Cell}
 use Rattle.searcher_table.specs.declared.board.Known.{Known}
+use Rattle.searcher_table.specs.declared.board.Plan.{Plan}
 use Rattle.searcher_table.specs.declared.registrar.Registrar.{Registrar}
 use Rattle.searcher_table.specs.declared.board.Hand.{Hand}
-use Rattle.searcher_table.specs.Words.{limits}
+use Rattle.searcher_table.specs.declared.shown.Shown.{Ghosts}
+use Rattle.searcher_table.specs.declared.tokens.Announced.{Announced}
+use Rattle.searcher_table.specs.Words.{limits, last_generation}
 use Rattle.searcher_table.specs.Warming.{listed, last_in, warming_in, AreUnused}
 use Rattle.searcher_table.specs.Views.{StartsWith, HasNoPlaceSince}
-use Rattle.searcher_table.specs.Steps.{opening_of, joined, Covers, HasExecuted}
-use Rattle.searcher_table.specs.Registrars.{plan_of, seen_of}
+use Rattle.searcher_table.specs.Steps.{opening_of, answer_of, joined, Covers, HasExecuted}
+use Rattle.searcher_table.specs.Registrars.{plan_of, seen_of, answer_to}
 use Rattle.searcher_table.proofs.Passing.{Knows, knows, knows_joined}
 use Rattle.searcher_table.proofs.Quiet.{HasSameOpenings, same_trans, quiet_since, state_next}
 use Rattle.searcher_table.proofs.Places.{same_places, one_place_more}
@@ -121,3 +126,57 @@ module _ {D U W X L : Type 0} where
         places = r.counted ∙ sym (same_places new.seen (seen_of r) (v.places r.role));
         mirrors = mirrors r new.seen (quiet_since (limits (plan_of r)) new.seen (seen_of r) (v.places r.role));
       }
+
+  -- what the registrar's numbers say of what it has seen: as many are warming as may be
+  pub is_full : (r : Registrar D U W X L) (found : List ℕ) → found ≡ listed r.warming → r.max_warming ≤ length found → length (warming_in (plan_of r) (seen_of r)) ≡ (plan_of r).max_warming
+  is_full r found is high = let w = ap length r.warming_are in let t = r.most in let n = r.enough in let got = ap length is in omega arith
+
+  -- or there is room for one more
+  pub has_room : (r : Registrar D U W X L) (found : List ℕ) → found ≡ listed r.warming → length found < r.max_warming → length (warming_in (plan_of r) (seen_of r)) < (plan_of r).max_warming
+  has_room r found is low = let w = ap length r.warming_are in let t = r.most in let got = ap length is in omega arith
+
+  -- the last generation was opened
+  pub none_left : (r : Registrar D U W X L) → 33554431 ≤ r.last → last_in (plan_of r) (seen_of r) ≡ last_generation
+  none_left r high = let l = r.last_is in let n = r.within in omega arith
+
+module _ {D U W X L : Type 0} {shows : Ghosts D W X L} where
+  abbrev hand_of : Announced D U W X L shows → Hand U
+  hand_of a = record { caller = a.caller; asked = a.asked }
+
+  -- the entry of an update
+  pub updates : (r : Registrar D U W X L) (a : Announced D U W X L shows) → a.asked.call ≡ ToUpdate → answer_to r a ≡ Update a.caller a.asked.content
+  updates r a is = ap (λ call. answer_of call (plan_of r) (seen_of r) (hand_of a)) is
+
+  -- and of an opening where as many are warming as may be, and where no generation is left
+  pub refuses_full : (r : Registrar D U W X L) (a : Announced D U W X L shows) → a.asked.call ≡ ToOpen → length (warming_in (plan_of r) (seen_of r)) ≡ (plan_of r).max_warming
+      → answer_to r a ≡ TooMany a.caller a.asked.content (warming_in (plan_of r) (seen_of r))
+  refuses_full r a is full =
+      let gs : List ℕ = warming_in (plan_of r) (seen_of r) in
+      ap (λ call. answer_of call (plan_of r) (seen_of r) (hand_of a)) is
+      ∙ ap (λ b. cond b (TooMany a.caller a.asked.content gs) (GenerationsSpent a.caller a.asked.content)) (eq-eqb (length gs) (plan_of r).max_warming full)
+
+  pub refuses_spent : (r : Registrar D U W X L) (a : Announced D U W X L shows) → a.asked.call ≡ ToOpen → length (warming_in (plan_of r) (seen_of r)) ≢ (plan_of r).max_warming
+      → answer_to r a ≡ GenerationsSpent a.caller a.asked.content
+  refuses_spent r a is room =
+      let gs : List ℕ = warming_in (plan_of r) (seen_of r) in
+      ap (λ call. answer_of call (plan_of r) (seen_of r) (hand_of a)) is
+      ∙ ap (λ b. cond b (TooMany a.caller a.asked.content gs) (GenerationsSpent a.caller a.asked.content)) (ne_eqb (length gs) (plan_of r).max_warming room)
+
+  -- what the step by which the registrar answers a call leaves, once it has taken that call in
+  pub answered : (r : Registrar D U W X L) (a : Announced D U W X L shows) (me new : Me (Cell D U) (Known W U X L)) → me ≡ (joined r.place.me.0 a.place.me.0, r.place.me.1)
+      → ((h : Hand U) (p : Plan W) → me.0.hand ≡ Some h → me.0.plan ≡ Some p → HasExecuted (answer_of h.asked.call p me.0.seen h) me new)
+      → HasEntered r a.place.me.0 new (answer_to r a)
+  answered r a me new is x =
+      let plan : me.0.plan ≡ Some (plan_of r) = ap (λ (m : Me (Cell D U) (Known W U X L)). m.0.plan) is ∙ r.told in
+      let hand : me.0.hand ≡ Some (hand_of a) = ap (λ (m : Me (Cell D U) (Known W U X L)). m.0.hand) is ∙ a.in_hand in
+      executed r a.place.me.0 me new (answer_to r a) is
+      (subst (λ (l : List (Entry U X L)). HasExecuted (answer_of a.asked.call (plan_of r) l (hand_of a)) me new) (ap (λ (m : Me (Cell D U) (Known W U X L)). m.0.seen) is) (x (hand_of a) (plan_of r) hand plan))
+
+  -- and the step by which it opens the next generation, which shows this
+  pub opened : (shown : X) (r : Registrar D U W X L) (a : Announced D U W X L shows) (me new : Me (Cell D U) (Known W U X L)) → me ≡ (joined r.place.me.0 a.place.me.0, r.place.me.1)
+      → ((h : Hand U) (p : Plan W) → me.0.hand ≡ Some h → me.0.plan ≡ Some p → HasExecuted (opening_of p me.0.seen h shown) me new) → HasEntered r a.place.me.0 new (opening_of (plan_of r) (seen_of r) (hand_of a) shown)
+  opened shown r a me new is x =
+      let plan : me.0.plan ≡ Some (plan_of r) = ap (λ (m : Me (Cell D U) (Known W U X L)). m.0.plan) is ∙ r.told in
+      let hand : me.0.hand ≡ Some (hand_of a) = ap (λ (m : Me (Cell D U) (Known W U X L)). m.0.hand) is ∙ a.in_hand in
+      executed r a.place.me.0 me new (opening_of (plan_of r) (seen_of r) (hand_of a) shown) is
+      (subst (λ (l : List (Entry U X L)). HasExecuted (opening_of (plan_of r) l (hand_of a) shown) me new) (ap (λ (m : Me (Cell D U) (Known W U X L)). m.0.seen) is) (x (hand_of a) (plan_of r) hand plan))

@@ -5,7 +5,7 @@ use Rattle.atomic_table.specs.Seated.{TableId}
 use Rattle.registry_machine.specs.declared.entry.Entry.{Entry}
 use Rattle.registry_machine.specs.declared.entry.Entry.TheVariants.{Update}
 use Rattle.registry_machine.specs.Entries.{has_place}
-use Rattle.registry_machine.specs.Legal.{Legal}
+use Rattle.registry_machine.specs.Legal.{IsAllowed, Legal, state_of}
 use Rattle.searcher_table.specs.declared.board.Call.TheVariants.{Update as ToUpdate}
 use Rattle.searcher_table.specs.declared.board.Plan.{Plan}
 use Rattle.searcher_table.specs.declared.shown.Shown.{Ghosts}
@@ -16,6 +16,7 @@ use Rattle.searcher_table.specs.declared.tokens.Announced.{Announced}
 use Rattle.searcher_table.specs.declared.tokens.Sighting.{Sighting}
 use Rattle.searcher_table.specs.Words.{limits}
 use Rattle.searcher_table.specs.Views.{StartsWith, HasNoPlaceSince}
+use Rattle.searcher_table.specs.Steps.{answer_of}
 use Rattle.searcher_table.specs.Passes.{mine_of, seen_before, sighted, sighted_at}
 
 module _ {D U W X L : Type 0} where
@@ -77,6 +78,14 @@ module _ {D U W X L : Type 0} {shows : Ghosts D W X L} where
     pub back : back_of t ≡ back_of s
     pub seen : HasNoPlaceSince (seen_of t) (seen_of s)
     pub covers : StartsWith (seen_of t) (sighted note)
+
+  -- a call that opens nothing: an update, or an opening that is refused
+  abbrev pub answer_to : Registrar D U W X L → Announced D U W X L shows → Entry U X L
+  answer_to r a = answer_of a.asked.call (plan_of r) (seen_of r) (record { caller = a.caller; asked = a.asked })
+
+  -- its entry may come next
+  abbrev pub MayAnswer : Registrar D U W X L → Announced D U W X L shows → Type 0
+  MayAnswer r a = IsAllowed (limits (plan_of r)) (state_of (limits (plan_of r)) (seen_of r)) (answer_to r a)
 
   -- the call is an update that was announced at this table
   pub record IsUpdateHere (r : Registrar D U W X L) (a : Announced D U W X L shows) : Type 0 where

@@ -1,11 +1,13 @@
 -- What each kind of step tells the seat that makes it, and how views are split and joined.
-use Rattle.std.specs.Prelude.{◌≡◌, ℕ, ◌+◌, ◌≤◌, true, false, List, [], ◌∷◌, ◌++◌, length, Option, Some, None}
+use Rattle.std.specs.Prelude.{◌≡◌, ℕ, ◌+◌, ◌≤◌, ◌==◌, if◌then◌else◌, true, false, List, [], ◌∷◌, ◌++◌, length, Option, Some, None}
 use mathlib.Core.Option.{some}
 use Rattle.atomic_table.specs.Table.{Me, Step}
 use Rattle.registry_machine.specs.declared.entry.Entry.{Entry}
 use Rattle.registry_machine.specs.declared.entry.Entry.TheVariants.{Open, TooMany, GenerationsSpent, Update}
 use Rattle.registry_machine.specs.Legal.{Legal, state_of}
 use Rattle.registry_machine.specs.Callers.{mine}
+use Rattle.searcher_table.specs.declared.board.Call.{Call}
+use Rattle.searcher_table.specs.declared.board.Call.TheVariants.{Open as ToOpen, Update as ToUpdate}
 use Rattle.searcher_table.specs.declared.board.Asked.{Asked}
 use Rattle.searcher_table.specs.declared.board.Cell.{Cell}
 use Rattle.searcher_table.specs.declared.board.Cell.TheVariants.{Full, Said}
@@ -19,6 +21,16 @@ module _ {W U X L : Type 0} where
   -- the entry of an opening that shows these documents
   abbrev pub opening_of : Plan W → List (Entry U X L) → Hand U → X → Entry U X L
   opening_of p seen h shown = Open h.caller h.asked.content ((state_of (limits p) seen).last_opened + 1) (length (state_of (limits p) seen).warming) shown
+
+  -- the entry of a call that opens nothing: an update's, or the refusal of an opening
+  abbrev pub refusal_of : Plan W → List (Entry U X L) → Hand U → Entry U X L
+  refusal_of p seen h =
+      let gs : List ℕ = (state_of (limits p) seen).warming in
+      if length gs == p.max_warming then TooMany h.caller h.asked.content gs else GenerationsSpent h.caller h.asked.content
+
+  abbrev pub answer_of : Call → Plan W → List (Entry U X L) → Hand U → Entry U X L
+  answer_of ToUpdate p seen h = Update h.caller h.asked.content
+  answer_of ToOpen p seen h = refusal_of p seen h
 
   -- ---- splits and joins
 
@@ -116,16 +128,8 @@ module _ {W U X L : Type 0} where
       pub after : new ≡ (record (looked before.0 (log ++ e ∷ []) pending) { hand = None }, before.1)
 
     abbrev pub Executed : Step (Cell D U) → Me (Cell D U) (Known W U X L) → ℕ → Me (Cell D U) (Known W U X L) → Type 0
-    Executed step before stored after = (h : Hand U) → before.0.hand ≡ Some h → HasExecuted (Update h.caller h.asked.content) before after
-
-    -- the opening in hand was refused as too many, and these were told
-    abbrev pub RefusedTooMany : Step (Cell D U) → Me (Cell D U) (Known W U X L) → ℕ → Me (Cell D U) (Known W U X L) → Type 0
-    RefusedTooMany step before stored after = (h : Hand U) (p : Plan W) → before.0.hand ≡ Some h → before.0.plan ≡ Some p
-        → HasExecuted (TooMany h.caller h.asked.content (state_of (limits p) before.0.seen).warming) before after
-
-    -- the opening in hand was refused, since the last generation had been opened
-    abbrev pub RefusedSpent : Step (Cell D U) → Me (Cell D U) (Known W U X L) → ℕ → Me (Cell D U) (Known W U X L) → Type 0
-    RefusedSpent step before stored after = (h : Hand U) → before.0.hand ≡ Some h → HasExecuted (GenerationsSpent h.caller h.asked.content) before after
+    Executed step before stored after = (h : Hand U) (p : Plan W) → before.0.hand ≡ Some h → before.0.plan ≡ Some p
+        → HasExecuted (answer_of h.asked.call p before.0.seen h) before after
 
     -- the opening in hand has the next generation, in the slot behind those of the warming ones, with the documents of this door
     abbrev pub Opened : (D → X) → Step (Cell D U) → Me (Cell D U) (Known W U X L) → ℕ → Me (Cell D U) (Known W U X L) → Type 0

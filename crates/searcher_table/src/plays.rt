@@ -1,6 +1,6 @@
 // The kinds of step, which are for the proofs alone.
 ghost use Rattle.searcher_table.specs.Steps.{Looked, Announced, Withdrawn, Executed, kept_back, handed_out, keeps_others, dealt_out, joined, taken_back, spent};
-ghost use Rattle.searcher_table.specs.Steps.{RefusedTooMany, RefusedSpent, Opened};
+ghost use Rattle.searcher_table.specs.Steps.{Opened};
 
 use crate::board::{Cell, Known};
 use crate::shown::Shown;
@@ -27,7 +27,7 @@ impl<D: Shown, U> Play<Cell<D, U>, Known<D::Setting, U, D::Docs, D::Deed>> for W
     ghost then = { Withdrawn };
 }
 
-// A caller's word goes back to 0, and the update that it announced has its entry.
+// A caller's word goes back to 0, and the update that it announced has its entry, or its opening is refused.
 pub(crate) struct Execute;
 
 impl<D: Shown, U> Play<Cell<D, U>, Known<D::Setting, U, D::Docs, D::Deed>> for Execute {
@@ -39,20 +39,6 @@ pub(crate) struct OpenNext;
 
 impl<D: Shown, U> Play<Cell<D, U>, Known<D::Setting, U, D::Docs, D::Deed>> for OpenNext {
     ghost then = { Opened D.docs };
-}
-
-// A caller's word goes back to 0, and its opening is refused as too many.
-pub(crate) struct RefuseTooMany;
-
-impl<D: Shown, U> Play<Cell<D, U>, Known<D::Setting, U, D::Docs, D::Deed>> for RefuseTooMany {
-    ghost then = { RefusedTooMany };
-}
-
-// A caller's word goes back to 0, and its opening is refused for spent generations.
-pub(crate) struct RefuseSpent;
-
-impl<D: Shown, U> Play<Cell<D, U>, Known<D::Setting, U, D::Docs, D::Deed>> for RefuseSpent {
-    ghost then = { RefusedSpent };
 }
 
 // What was seen goes along to a seat of its own, with what was announced, if anything is.

@@ -7,9 +7,7 @@ ghost use Rattle.searcher_table.specs.Warming.{listed, last_in, warming_in, AreU
 use crate::board::{CALLS, Cell, LAST_GENERATION, Link, Place, REGISTRAR, SharedTable};
 use crate::gens::Gens;
 use crate::pass::Pass;
-use crate::plays::{
-    Execute, Gather, HandOut, Look, OpenNext, RefuseSpent, RefuseTooMany, TakeBack,
-};
+use crate::plays::{Execute, Gather, HandOut, Look, OpenNext, TakeBack};
 use crate::shown::Shown;
 use crate::tokens::{Announced, OpenRefusal, Opening, Sighting};
 
@@ -48,11 +46,9 @@ pub struct Registrar<D: Shown, U: Drop> {
 
 impl<D: Shown, U: Drop> Registrar<D, U> {
     ghost use Rattle.std.specs.Prelude.{◌≡◌, ◌<◌, None, IfOk, IfErr, IsTrue};
-    ghost use Rattle.searcher_table.specs.Words.{last_generation};
-    ghost use Rattle.searcher_table.specs.Openings.{warming_of, last_of, HasRoom, MayOpen, AreDoors, IsOpenHere};
-    ghost use Rattle.searcher_table.specs.Openings.{HasOpened, IsTooMany, IsSpent, IsRefused};
+    ghost use Rattle.searcher_table.specs.Openings.{MayOpen, AreDoors, IsOpenHere, HasOpened, IsRefused};
     ghost use Rattle.searcher_table.specs.Passes.{sighted_at, announced_of, table_of as table_of_pass};
-    ghost use Rattle.searcher_table.specs.Registrars.{table_of, plan_of, places_of};
+    ghost use Rattle.searcher_table.specs.Registrars.{table_of, places_of, MayAnswer, answer_to, HasEntry};
     ghost use Rattle.searcher_table.specs.Registrars.{IsUnchanged, IsSightingOf, HasMet};
     ghost use Rattle.searcher_table.specs.Registrars.{IsUpdateHere, HasUpdated, HasTakenBack};
 
@@ -65,18 +61,7 @@ impl<D: Shown, U: Drop> Registrar<D, U> {
         ensures place { result.0 ≡ places_of self.old }
         ensures content { result.1 ≡ call.asked.content }
     {
-        let Announced {
-            caller,
-            asked,
-            place,
-        } = call;
-        let word = CALLS + 8 * caller as usize;
-        let shared = &self.table.shared;
-        shared.join_seat::<Gather>(&mut self.place, place);
-        shared.store::<Execute>(&mut self.place, word, 0);
-        let at = self.places;
-        self.places += 1;
-        (at, asked.content)
+        self.answer(call)
     }
 
     /// Whether an opening that is executed now is not refused.
@@ -107,57 +92,37 @@ impl<D: Shown, U: Drop> Registrar<D, U> {
     {
         if self.warming.get().len() >= self.max_warming as usize {
             let warming = self.warming.again();
-            let place = self.refuse_too_many(call);
+            let (place, _content) = self.answer(call);
             return Err((OpenRefusal::TooMany { place, warming }, doors));
         }
         if self.last >= LAST_GENERATION {
-            let place = self.refuse_spent(call);
+            let (place, _content) = self.answer(call);
             return Err((OpenRefusal::GenerationsSpent { place }, doors));
         }
         Ok(self.open(call, doors))
     }
 
-    // Gives the opening its entry as too many, and that one's place.
-    fn refuse_too_many(&mut self, call: Announced<D, U>) -> u64
-        requires call { IsOpenHere self.old call }
+    // Gives a call that opens nothing its entry. This gives the entry's place, and the content.
+    fn answer(&mut self, call: Announced<D, U>) -> (u64, U)
+        requires table { call.place.table_id ≡ table_of self.old }
+        requires may { MayAnswer self.old call }
         requires room { places_of self.old < 18446744073709551615 }
-        requires full { length (warming_of self.old) ≡ (plan_of self.old).max_warming }
-        ensures { IsTooMany self.old self.new call result (warming_of self.old) }
+        ensures entry { HasEntry self.old self.new call (answer_to self.old call) }
+        ensures place { result.0 ≡ places_of self.old }
+        ensures content { result.1 ≡ call.asked.content }
     {
         let Announced {
             caller,
-            asked: _asked,
+            asked,
             place,
         } = call;
         let word = CALLS + 8 * caller as usize;
         let shared = &self.table.shared;
         shared.join_seat::<Gather>(&mut self.place, place);
-        shared.store::<RefuseTooMany>(&mut self.place, word, 0);
+        shared.store::<Execute>(&mut self.place, word, 0);
         let at = self.places;
         self.places += 1;
-        at
-    }
-
-    // Gives the opening its entry for spent generations, and that one's place.
-    fn refuse_spent(&mut self, call: Announced<D, U>) -> u64
-        requires call { IsOpenHere self.old call }
-        requires room { places_of self.old < 18446744073709551615 }
-        requires free { HasRoom self.old }
-        requires last { last_of self.old ≡ last_generation }
-        ensures { IsSpent self.old self.new call result }
-    {
-        let Announced {
-            caller,
-            asked: _asked,
-            place,
-        } = call;
-        let word = CALLS + 8 * caller as usize;
-        let shared = &self.table.shared;
-        shared.join_seat::<Gather>(&mut self.place, place);
-        shared.store::<RefuseSpent>(&mut self.place, word, 0);
-        let at = self.places;
-        self.places += 1;
-        at
+        (at, asked.content)
     }
 
     // Opens the next generation.

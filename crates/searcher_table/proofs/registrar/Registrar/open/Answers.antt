@@ -8,7 +8,6 @@ use Rattle.searcher_table.specs.declared.board.Plan.{Plan}
 use Rattle.searcher_table.specs.declared.board.Hand.{Hand}
 use Rattle.searcher_table.specs.Words.{last_generation, limits}
 use Rattle.searcher_table.specs.Warming.{listed, last_in, warming_in, AreUnused}
-use Rattle.searcher_table.specs.Steps.{opening_of, HasExecuted}
 use Rattle.searcher_table.specs.Registrars.{plan_of, seen_of}
 use Rattle.searcher_table.proofs.Frame.{all_map, all_last}
 use Rattle.std.specs.Prelude.{slice_get}
@@ -17,7 +16,7 @@ use Rattle.searcher_table.proofs.Row.{got_here, got_before}
 use Rattle.searcher_table.proofs.Gather.{joins}
 use Rattle.searcher_table.proofs.HandOut.{splits}
 use Rattle.searcher_table.proofs.Open.{opens_next}
-use Rattle.searcher_table.proofs.Registering.{executed, opened_mirrors}
+use Rattle.searcher_table.proofs.Registering.{opened, opened_mirrors}
 use Rattle.searcher_table.proofs.registrar.Registrar.open.Goals as goal
 
 pub join_seat-requires : goal.join_seat-requires
@@ -72,18 +71,13 @@ pub invariant_of-self : goal.invariant_of-self
 invariant_of-self g c =
     let registrar = c.args.self.now in
     let call = c.args.call in
-    let hand : Hand g.row.U.Denot = record { caller = call.caller; asked = call.asked } in
     let e = c.join_seat.ensures in
-    let shown = g.D.Shown.docs c.in-Some.door in
-    let entry : Entry g.row.U.Denot g.row.D-Docs.Denot g.row.D-Deed.Denot = opening_of (plan_of registrar) (seen_of registrar) hand shown in
     let new = c.compare_exchange_with.new.seat.me in
-    let x = executed registrar call.place.me.0 c.join_seat.new.seat.me new entry e.2
-    (subst (λ (s : List (Entry g.row.U.Denot g.row.D-Docs.Denot g.row.D-Deed.Denot)). HasExecuted (opening_of (plan_of registrar) s hand shown) c.join_seat.new.seat.me new) (ap (λ m. m.0.seen) e.2)
-    (c.compare_exchange_with.ensures.2 hand (plan_of registrar) c.in-Some.door (ap (λ m. m.0.hand) e.2 ∙ call.in_hand) (ap (λ m. m.0.plan) e.2 ∙ registrar.told) refl)) in
+    let x = opened (g.D.Shown.docs c.in-Some.door) registrar call c.join_seat.new.seat.me new e.2 (λ h p has told. c.compare_exchange_with.ensures.2 h p c.in-Some.door has told refl) in
     let k = x.knows in
     let e2 = c.split_seat-seat.ensures in
     let id : c.split_seat-seat.new.seat.table_id ≡ registrar.place.table_id = e2.0 ∙ c.compare_exchange_with.ensures.0 ∙ e.0 in
-    let m = opened_mirrors registrar call.place.me.0 new hand shown x in
+    let m = opened_mirrors registrar call.place.me.0 new (record { caller = call.caller; asked = call.asked }) (g.D.Shown.docs c.in-Some.door) x in
     record {
       at_table = id ∙ registrar.at_table;
       sized = ap (λ z. z.words) id ∙ registrar.sized;
@@ -113,14 +107,9 @@ pub invariant_of-result : goal.invariant_of-result
 invariant_of-result g c =
     let registrar = c.args.self.now in
     let call = c.args.call in
-    let hand : Hand g.row.U.Denot = record { caller = call.caller; asked = call.asked } in
     let e = c.join_seat.ensures in
-    let shown = g.D.Shown.docs c.in-Some.door in
-    let entry : Entry g.row.U.Denot g.row.D-Docs.Denot g.row.D-Deed.Denot = opening_of (plan_of registrar) (seen_of registrar) hand shown in
     let new = c.compare_exchange_with.new.seat.me in
-    let x = executed registrar call.place.me.0 c.join_seat.new.seat.me new entry e.2
-    (subst (λ (s : List (Entry g.row.U.Denot g.row.D-Docs.Denot g.row.D-Deed.Denot)). HasExecuted (opening_of (plan_of registrar) s hand shown) c.join_seat.new.seat.me new) (ap (λ m. m.0.seen) e.2)
-    (c.compare_exchange_with.ensures.2 hand (plan_of registrar) c.in-Some.door (ap (λ m. m.0.hand) e.2 ∙ call.in_hand) (ap (λ m. m.0.plan) e.2 ∙ registrar.told) refl)) in
+    let x = opened (g.D.Shown.docs c.in-Some.door) registrar call c.join_seat.new.seat.me new e.2 (λ h p has told. c.compare_exchange_with.ensures.2 h p c.in-Some.door has told refl) in
     let k = x.knows in
     let e2 = c.split_seat-seat.ensures in
     let id : c.split_seat-seat.new.seat.table_id ≡ registrar.place.table_id = e2.0 ∙ c.compare_exchange_with.ensures.0 ∙ e.0 in
@@ -135,18 +124,14 @@ pub returns : goal.returns
 returns g c =
     let registrar = c.args.self.now in
     let call = c.args.call in
-    let hand : Hand g.row.U.Denot = record { caller = call.caller; asked = call.asked } in
     let e = c.join_seat.ensures in
-    let shown = g.D.Shown.docs c.in-Some.door in
-    let entry : Entry g.row.U.Denot g.row.D-Docs.Denot g.row.D-Deed.Denot = opening_of (plan_of registrar) (seen_of registrar) hand shown in
     let new = c.compare_exchange_with.new.seat.me in
-    let x = executed registrar call.place.me.0 c.join_seat.new.seat.me new entry e.2
-    (subst (λ (s : List (Entry g.row.U.Denot g.row.D-Docs.Denot g.row.D-Deed.Denot)). HasExecuted (opening_of (plan_of registrar) s hand shown) c.join_seat.new.seat.me new) (ap (λ m. m.0.seen) e.2)
-    (c.compare_exchange_with.ensures.2 hand (plan_of registrar) c.in-Some.door (ap (λ m. m.0.hand) e.2 ∙ call.in_hand) (ap (λ m. m.0.plan) e.2 ∙ registrar.told) refl)) in
+    let x = opened (g.D.Shown.docs c.in-Some.door) registrar call c.join_seat.new.seat.me new e.2 (λ h p has told. c.compare_exchange_with.ensures.2 h p c.in-Some.door has told refl) in
     let k = x.knows in
     let e2 = c.split_seat-seat.ensures in
     let id : c.split_seat-seat.new.seat.table_id ≡ registrar.place.table_id = e2.0 ∙ c.compare_exchange_with.ensures.0 ∙ e.0 in
     let rest = c.pop.new.self.items in
+    let shown = g.D.Shown.docs c.in-Some.door in
     record {
       slot = length (warming_in (plan_of registrar) (seen_of registrar));
       shown = shown;

@@ -1,16 +1,16 @@
-use Rattle.std.proofs.Common.{◌≡◌, ◌+◌, ◌*◌, ◌<◌, ◌∙◌, length, List, refl, sym, ap, subst, arith}
+use Rattle.std.proofs.Common.{◌≡◌, ◌+◌, ◌*◌, ◌∙◌, List, Some, refl, sym, ap, subst, arith}
 use Rattle.registry_machine.specs.declared.entry.Entry.{Entry}
-use Rattle.registry_machine.specs.declared.entry.Entry.TheVariants.{GenerationsSpent}
+use Rattle.registry_machine.specs.Legal.{IsAllowed, state_of}
 use Rattle.searcher_table.specs.declared.board.Plan.{Plan}
 use Rattle.searcher_table.specs.declared.board.Hand.{Hand}
-use Rattle.searcher_table.specs.Words.{last_generation}
-use Rattle.searcher_table.specs.Warming.{last_in, warming_in}
-use Rattle.searcher_table.specs.Registrars.{plan_of, seen_of}
+use Rattle.searcher_table.proofs.Registering.{answered, entered_mirrors}
+use Rattle.searcher_table.specs.Words.{limits}
+use Rattle.searcher_table.specs.Steps.{answer_of}
+use Rattle.searcher_table.specs.Registrars.{plan_of, seen_of, answer_to}
 use Rattle.searcher_table.specs.Spares.{AreAt}
 use Rattle.searcher_table.proofs.Gather.{joins}
-use Rattle.searcher_table.proofs.Open.{refuses_spent}
-use Rattle.searcher_table.proofs.Registering.{executed, entered_mirrors}
-use Rattle.searcher_table.proofs.registrar.Registrar.refuse_spent.Goals as goal
+use Rattle.searcher_table.proofs.Execute.{answers, is_answer}
+use Rattle.searcher_table.proofs.registrar.Registrar.answer.Goals as goal
 
 pub join_seat-requires : goal.join_seat-requires
 join_seat-requires g c =
@@ -20,7 +20,7 @@ join_seat-requires g c =
     let same : registrar.place.table_id ≡ table.table_id = registrar.at_table ∙ sym (ap (λ t. t.shared.table_id) c.deref.ensures) in
     let words : table.table_id.words ≡ 1168 = ap (λ z. z.words) (sym same) ∙ registrar.sized in (
       same,
-      c.requires.call.table ∙ same,
+      c.requires.table ∙ same,
       call.bare,
       omega arith,
       joins table.key registrar.place.id registrar.place.me.0 call.place.id call.place.me.0,
@@ -41,10 +41,9 @@ store-requires g c =
     let few = call.ranged in (
       e.0 ∙ same,
       omega arith,
-      refuses_spent table.key table.table_id.slots c.join_seat.new.seat.id me (640 + 8 * call.caller) hand
-          refl call.ranged.0 call.ranged.1 (ap (λ m. m.0.hand) e.2 ∙ call.in_hand) (ap (λ m. m.0.registrar) e.2 ∙ registrar.role) c.requires.call.call
-          (subst (λ (z : Plan g.row.D-Setting.Denot × List (Entry g.row.U.Denot g.row.D-Docs.Denot g.row.D-Deed.Denot)). length (warming_in z.0 z.1) < z.0.max_warming) (λ i. (kp i, sp i)) c.requires.free)
-          (subst (λ (z : Plan g.row.D-Setting.Denot × List (Entry g.row.U.Denot g.row.D-Docs.Denot g.row.D-Deed.Denot)). last_in z.0 z.1 ≡ last_generation) (λ i. (kp i, sp i)) c.requires.last),
+      answers table.key table.table_id.slots c.join_seat.new.seat.id me (640 + 8 * call.caller) hand
+          refl call.ranged.0 call.ranged.1 (ap (λ m. m.0.hand) e.2 ∙ call.in_hand) (ap (λ m. m.0.registrar) e.2 ∙ registrar.role) (ap (λ m. m.0.plan) e.2 ∙ registrar.told ∙ ap (λ p. Some p) kp)
+          (subst (λ (z : Plan g.row.D-Setting.Denot × List (Entry g.row.U.Denot g.row.D-Docs.Denot g.row.D-Deed.Denot)). IsAllowed (limits z.0) (state_of (limits z.0) z.1) (answer_of call.asked.call z.0 z.1 hand)) (λ i. (kp i, sp i)) c.requires.may),
     )
 
 pub invariant_of-self : goal.invariant_of-self
@@ -53,9 +52,9 @@ invariant_of-self g c =
     let call = c.args.call in
     let hand : Hand g.row.U.Denot = record { caller = call.caller; asked = call.asked } in
     let e = c.join_seat.ensures in
-    let entry = GenerationsSpent call.caller call.asked.content in
-    let x = executed registrar call.place.me.0 c.join_seat.new.seat.me c.store.new.seat.me entry e.2 (c.store.ensures.2 hand (ap (λ m. m.0.hand) e.2 ∙ call.in_hand)) in
-    let m = entered_mirrors registrar call.place.me.0 c.store.new.seat.me entry x record { last = refl; warming = refl; free = λ _ p. p } in
+    let x = answered registrar call c.join_seat.new.seat.me c.store.new.seat.me e.2 c.store.ensures.2 in
+    let a = is_answer (plan_of registrar) (seen_of registrar) hand call.asked.call refl in
+    let m = entered_mirrors registrar call.place.me.0 c.store.new.seat.me (answer_to registrar call) x (a.still (state_of (limits (plan_of registrar)) x.log)) in
     let k = x.knows in
     let id : c.store.new.seat.table_id ≡ registrar.place.table_id = c.store.ensures.0 ∙ e.0 in
     record {
@@ -63,7 +62,7 @@ invariant_of-self g c =
       sized = ap (λ z. z.words) id ∙ registrar.sized;
       told = k.plan ∙ registrar.told;
       role = k.registrar ∙ registrar.role;
-      counted = x.places refl;
+      counted = x.places a.placed;
       most = registrar.most;
       few = registrar.few;
       some = registrar.some;
@@ -77,25 +76,18 @@ invariant_of-self g c =
       bare = x.bare;
     }
 
-pub returns : goal.returns
-returns g c =
+pub returns-clause-entry : goal.returns-clause-entry
+returns-clause-entry g c =
     let registrar = c.args.self.now in
     let call = c.args.call in
-    let hand : Hand g.row.U.Denot = record { caller = call.caller; asked = call.asked } in
     let e = c.join_seat.ensures in
-    let entry = GenerationsSpent call.caller call.asked.content in
-    let x = executed registrar call.place.me.0 c.join_seat.new.seat.me c.store.new.seat.me entry e.2 (c.store.ensures.2 hand (ap (λ m. m.0.hand) e.2 ∙ call.in_hand)) in
+    let x = answered registrar call c.join_seat.new.seat.me c.store.new.seat.me e.2 c.store.ensures.2 in
     record {
-      entry = record {
-        registrar = record { table = c.store.ensures.0 ∙ e.0; plan = refl };
-        legal = x.legal;
-        back = x.knows.back;
-        before = x.log;
-        seen = x.seen;
-        covers = x.covers;
-        entry = x.knows.seen;
-      };
-      place = registrar.counted;
-      room = c.requires.free;
-      last = c.requires.last;
+      registrar = record { table = c.store.ensures.0 ∙ e.0; plan = refl };
+      legal = x.legal;
+      back = x.knows.back;
+      before = x.log;
+      seen = x.seen;
+      covers = x.covers;
+      entry = x.knows.seen;
     }
