@@ -1,24 +1,25 @@
--- A caller that announces an update, has it executed and meets the registrar has just this entry more.
-use Rattle.std.proofs.Common.{true, ◌≡◌, ℕ, List, [], ◌∷◌, ◌++◌, length, length-append, append-nil, append_assoc, count_by, refl, sym, ap, ◌∙◌, ⊎_elim, arith, None}
+-- A caller that announces a call, has it executed and meets what has seen it has just this entry more.
+use Rattle.std.proofs.Common.{true, ◌≡◌, ℕ, List, [], ◌∷◌, ◌++◌, length, length-append, append-nil, append_assoc, count_by, refl, sym, ap, ◌∙◌, ⊎_elim, arith, Some, None}
 use Rattle.std.proofs.lemmas.List.{append_cancel_left}
 use Rattle.registry_machine.specs.declared.entry.Entry.{Entry}
-use Rattle.registry_machine.specs.declared.entry.Entry.TheVariants.{TooMany, GenerationsSpent, Update}
-use Rattle.registry_machine.specs.Entries.{has_place}
+use Rattle.registry_machine.specs.declared.entry.Entry.TheVariants.{Open, TooMany, GenerationsSpent, Update}
+use Rattle.registry_machine.specs.Entries.{caller_of, has_place}
 use Rattle.registry_machine.specs.Callers.{mine}
-use Rattle.searcher_table.specs.declared.board.Call.TheVariants.{Update as ToUpdate}
+use Rattle.searcher_table.specs.declared.board.Call.TheVariants.{Open as ToOpen, Update as ToUpdate}
 use Rattle.searcher_table.specs.declared.shown.Shown.{Ghosts}
 use Rattle.searcher_table.specs.declared.pass.Pass.{Pass}
 use Rattle.searcher_table.specs.declared.registrar.Registrar.{Registrar}
 use Rattle.searcher_table.specs.declared.tokens.Announced.{Announced}
 use Rattle.searcher_table.specs.declared.tokens.Sighting.{Sighting}
+use Rattle.searcher_table.specs.declared.tokens.Opening.{Opening}
 use Rattle.searcher_table.specs.declared.tokens.OpenRefusal.{OpenRefusal}
 use Rattle.searcher_table.specs.declared.tokens.OpenRefusal.TheVariants.{TooMany as AsTooMany, GenerationsSpent as AsSpent}
 use Rattle.searcher_table.specs.Warming.{listed}
-use Rattle.searcher_table.specs.Openings.{IsRefused}
+use Rattle.searcher_table.specs.Openings.{HasOpened, IsRefused}
 use Rattle.searcher_table.specs.Views.{IsStill, WasExecuted}
 use Rattle.searcher_table.specs.Passes.{seen_of, mine_of, announced_of, sighted, HasSeenMore, HasLooked, HasAnnounced, HasMet, IsAnnouncedBy}
 use Rattle.searcher_table.specs.Registrars.{seen_of as seen_by, IsUnchanged, IsSightingOf, HasEntry, HasUpdated}
-use Rattle.table_rows.specs.TableTrials.{HasOneMore, HasOneCallMore}
+use Rattle.table_rows.specs.TableTrials.{HasOneMore, HasOneOpeningMore, HasOneCallMore}
 use Rattle.searcher_table.proofs.Frame.{own_joined}
 use Rattle.searcher_table.proofs.Passing.{nothing_more}
 use Rattle.searcher_table.proofs.Places.{same_places, one_place_more}
@@ -48,12 +49,11 @@ module _ {D U W X L : Type 0} where
       l.calls
 
 module _ {D U W X L : Type 0} {shows : Ghosts D W X L} where
-  pub grown : (s t : Pass D U W X L) (a : Announced D U W X L shows) (r q : Registrar D U W X L) (note : Sighting D U W X L shows)
-      → a.caller ≡ s.caller → a.place.me.0.seen ≡ seen_of s → HasUpdated r q a → sighted note ≡ seen_by q → HasMet s t note
-      → (mine_of t ≡ mine_of s ++ Update a.caller a.asked.content ∷ []) × (announced_of t ≡ None)
-  grown s t a r q note by from up told met =
+  pub grown : (s t : Pass D U W X L) (a : Announced D U W X L shows) (r q : Registrar D U W X L) (note : Sighting D U W X L shows) (e : Entry U X L) → caller_of e ≡ Some a.caller
+      → a.caller ≡ s.caller → a.place.me.0.seen ≡ seen_of s → HasEntry r q a e → sighted note ≡ seen_by q → HasMet s t note
+      → (mine_of t ≡ mine_of s ++ e ∷ []) × (announced_of t ≡ None)
+  grown s t a r q note e named by from up told met =
       let c : ℕ = s.caller in
-      let e : Entry U X L = Update a.caller a.asked.content in
       let k : List (Entry U X L) = up.covers.0 in
       let rest : List (Entry U X L) = met.covers.0 in
       let before : List (Entry U X L) = seen_of s ++ k in
@@ -62,7 +62,7 @@ module _ {D U W X L : Type 0} {shows : Ghosts D W X L} where
       let more : List (Entry U X L) = mine c k ++ e ∷ mine c rest in
       let is : mine_of t ≡ mine_of s ++ more =
       t.own ∙ (λ i. mine (met.looked.more.pass.caller i) (whole i)) ∙ own_joined c (before ++ e ∷ []) rest
-      ∙ ap (λ l. l ++ mine c rest) (own_entry a.caller c before e refl (sym by) ∙ ap (λ l. l ++ e ∷ []) (own_joined c (seen_of s) k ∙ ap (λ l. l ++ mine c k) (sym s.own)))
+      ∙ ap (λ l. l ++ mine c rest) (own_entry a.caller c before e named (sym by) ∙ ap (λ l. l ++ e ∷ []) (own_joined c (seen_of s) k ∙ ap (λ l. l ++ mine c k) (sym s.own)))
       ∙ append_assoc (mine_of s ++ mine c k) (e ∷ []) (mine c rest) ∙ append_assoc (mine_of s) (mine c k) (e ∷ mine c rest) in
       ⊎_elim
       (λ (x : IsStill c (mine_of s) (announced_of s) (mine_of t) (announced_of t)).
@@ -76,7 +76,7 @@ module _ {D U W X L : Type 0} {shows : Ghosts D W X L} where
       → HasAnnounced s m (record { call = ToUpdate; content = u }) → IsAnnouncedBy m (record { call = ToUpdate; content = u }) a → HasUpdated r q a → IsUnchanged q v → IsSightingOf v note → HasMet m t note
       → a.place.table_id ≡ r.place.table_id → HasOneMore s t r v u
   one_more s m t u a r q v note said by up same told met here =
-      let g = grown m t a r q note by.caller by.seen up (told.seen ∙ same.seen) met in
+      let g = grown m t a r q note (Update a.caller a.asked.content) refl by.caller by.seen up (told.seen ∙ same.seen) met in
       let caller : a.caller ≡ s.caller = by.caller ∙ said.more.pass.caller in
       let first = said.more.pass in
       let last = met.looked.more.pass in
@@ -91,6 +91,20 @@ module _ {D U W X L : Type 0} {shows : Ghosts D W X L} where
             let l = same_places up.before (seen_by r) up.seen in
             omega arith;
         mine = g.0 ∙ (λ i. same_own s m said.more i ++ Update (caller i) (by.asked i).content ∷ []);
+      }
+
+  -- the same of an opening that has its next generation, where the pass meets what the opening has seen
+  pub one_opening_more : (s m t : Pass D U W X L) (u : U) (a : Announced D U W X L shows) (r q : Registrar D U W X L) (doors : List D) (docs : D → X) (o : Opening D U W X L) (note : Sighting D U W X L shows)
+      → HasAnnounced s m (record { call = ToOpen; content = u }) → IsAnnouncedBy m (record { call = ToOpen; content = u }) a → HasOpened docs r q a doors o → sighted note ≡ o.seat.me.0.seen → HasMet m t note
+      → HasOneOpeningMore s t u o.generation
+  one_opening_more s m t u a r q doors docs o note said by up told met =
+      let g = grown m t a r q note (Open a.caller a.asked.content o.generation up.slot up.shown) refl by.caller by.seen up.entry (told ∙ up.seen) met in
+      let caller : a.caller ≡ s.caller = by.caller ∙ said.more.pass.caller in
+      record {
+        slot = up.slot;
+        shown = up.shown;
+        mine = g.0 ∙ (λ i. same_own s m said.more i ++ Open (caller i) (by.asked i).content o.generation up.slot up.shown ∷ []);
+        none = g.1;
       }
 
   -- an entry with a place is one call more

@@ -1,7 +1,7 @@
 -- What the tests say of passes at one table.
 use Rattle.std.specs.Prelude.{◌≡◌, ℕ, ◌+◌, ◌≤◌, List, [], ◌∷◌, ◌++◌, length, None}
 use Rattle.std.specs.List.{AllByRecursion}
-use Rattle.registry_machine.specs.declared.entry.Entry.TheVariants.{Update}
+use Rattle.registry_machine.specs.declared.entry.Entry.TheVariants.{Open, Update}
 use Rattle.searcher_table.specs.declared.pass.Pass.{Pass}
 use Rattle.searcher_table.specs.declared.registrar.Registrar.{Registrar}
 use Rattle.searcher_table.specs.Passes.{mine_of, announced_of, IsSamePass}
@@ -30,6 +30,13 @@ module _ {D U W X L : Type 0} where
     pub ready : IsReady q t
     pub places : places_of q ≡ places_of r + 1
     pub mine : mine_of t ≡ mine_of s ++ Update s.caller u ∷ []
+
+  -- the pass has one entry more, its opening of this generation, and nothing is announced by it
+  pub record HasOneOpeningMore (s t : Pass D U W X L) (u : U) (g : ℕ) : Type 0 where
+    pub slot : ℕ
+    pub shown : X
+    pub mine : mine_of t ≡ mine_of s ++ Open s.caller u g slot shown ∷ []
+    pub none : announced_of t ≡ None
 
   -- nothing is announced by the pass s, which is now t
   pub record HasNothingOut (s t : Pass D U W X L) : Type 0 where

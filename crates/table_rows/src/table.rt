@@ -1,9 +1,9 @@
-ghost use Rattle.std.specs.Prelude.{◌≡◌, ◌+◌, ◌≤◌, [], None, length, IfSome};
+ghost use Rattle.std.specs.Prelude.{◌≡◌, ◌+◌, ◌≤◌, [], None, length, IfOk, IfSome};
 ghost use Rattle.searcher_table.specs.Passes.{mine_of, announced_of};
 ghost use Rattle.searcher_table.specs.Making.{AreDealt};
 ghost use Rattle.searcher_table.specs.Registrars.{places_of, IsSameRegistrar};
 ghost use Rattle.table_rows.specs.TableTrials.{ArePair, IsReady, HasRoom, HasOneMore, HasNothingOut};
-ghost use Rattle.table_rows.specs.TableTrials.{IsForTwo, HasOneCallMore, AreTwo};
+ghost use Rattle.table_rows.specs.TableTrials.{IsForTwo, HasOneCallMore, HasOneOpeningMore, AreTwo};
 
 use searcher_table::{Call, OpenRefusal, Pass, Registrar, Shown, make};
 use std::alloc::Global;
@@ -174,7 +174,8 @@ fn two_doors(alloc: Global) -> Option<Vec<Door>>
     Some(doors)
 }
 
-// What the opening of a caller is answered: the generation and the place, or the refusal.
+// What the opening of a caller is answered: the generation and the place, or the refusal. Once it has met the opening,
+// the caller has just this entry more.
 fn open(
     pass: &mut Pass<Door, u32>,
     registrar: &mut Registrar<Door, u32>,
@@ -184,7 +185,8 @@ fn open(
     requires room { HasRoom registrar.old 1 }
     requires table { IsForTwo 0 registrar.old }
     requires doors { AreTwo (λ d. d.number) 9 doors.items }
-    ensures { HasOneCallMore registrar.old registrar.new }
+    ensures more { HasOneCallMore registrar.old registrar.new }
+    ensures opened { IfOk result (λ o. HasOneOpeningMore pass.old pass.new 0 o.0) }
 {
     let call = pass.announce(Call::Open, 0);
     match registrar.execute_open(call, doors) {
