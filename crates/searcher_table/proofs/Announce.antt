@@ -21,6 +21,7 @@ use Rattle.searcher_table.specs.Views.{IsStill, WasExecuted, GoesOn}
 use Rattle.searcher_table.specs.Rule.{World, IsPass, IsHand, IsBack, Kept}
 use Rattle.searcher_table.specs.Steps.{looked, HasAnnounced, Announced}
 use Rattle.searcher_table.proofs.Frame.{put, put_here, put_else, moved, Leaves, one_after, covers}
+use Rattle.searcher_table.proofs.Beside.{AreSame, call_beside, two_words}
 use Rattle.searcher_table.proofs.Handing.{calls_after, another}
 
 -- a pass with nothing announced has all its caller's entries, and nothing is pending
@@ -95,6 +96,7 @@ module _ {D W U X L : Type 0} (p : Plan W) where
           words = length-set s.words i new ∙ kept.words;
           world = moved w w.log now hands;
           legal = kept.legal;
+          two = two_words p w.log s.words (set s.words i new) kept.legal (subst (λ (n : ℕ). AreSame s.words (set s.words n new)) (sym at_word) (call_beside s.words c new)) kept.two;
           one = one_after p w w.log now hands s.words (set s.words i new) s.views id k (Some hand) kept.one at (leaves asked w id k f still.1)
               (λ d l h. subst (λ (n : ℕ). slice_index (set s.words n new) (call_word d) ≡ code (now d)) (sym at_word) (calls_after s.words w.pending c new (Some asked) kept.words few is kept.one.calls d l h))
               (λ d past. let u = kept.one.undealt d past in (put_else c (Some asked) w.pending d (λ e. let deal = f.dealt in absurd (omega arith)) ∙ u.0, u.1))

@@ -1,10 +1,11 @@
 -- Executing keeps the rule: the call in hand has its entry, which its caller's pass does not know yet.
-use Rattle.std.proofs.Common.{◌≡◌, ◌≢◌, ℕ, ◌<◌, ◌≤◌, true, false, Bool, cond, List, length, [], ◌∷◌, ◌++◌, append-nil, set, sym, refl, ap, ◌∙◌, subst, inr, ⊎_elim, length-set, eq-eqb, ne_eqb, Option, Some, None}
+use Rattle.std.proofs.Common.{◌≡◌, ◌≢◌, ℕ, ◌<◌, ◌≤◌, true, false, Bool, cond, List, length, [], ◌∷◌, ◌++◌, append-nil, set, sym, refl, ap, ◌∙◌, subst, inl, inr, ⊎_elim, length-set, eq-eqb, ne_eqb, Option, Some, None, IfSome}
 use mathlib.Core.Option.{some}
 use mathlib.Core.Option as maybe
 use mathlib.Core.Logic.{dite}
 use native.Mathlib.Decide.{ℕ_discrete}
 use Rattle.std.specs.Prelude.{◌==◌, slice_index}
+use Rattle.std.specs.List.{AllByRecursion}
 use Rattle.std.proofs.lemmas.Option.{same_Some, none-some}
 use Rattle.atomic_table.specs.Table.{Me, Allows, keeps, step, stepped}
 use Rattle.registry_machine.specs.declared.entry.Entry.{Entry}
@@ -27,6 +28,8 @@ use Rattle.searcher_table.specs.Views.{Answers, IsStill, WasExecuted, GoesOn, Ha
 use Rattle.searcher_table.specs.Rule.{World, IsPass, IsHand, IsRegistrar, IsBack, Kept}
 use Rattle.searcher_table.specs.Steps.{answer_of, looked, HasExecuted, Executed}
 use Rattle.searcher_table.proofs.Frame.{put, put_here, put_else, moved, Leaves, starts_later, own_joined, all_map, one_after, covers}
+use Rattle.searcher_table.specs.Counts.{NamesCaller}
+use Rattle.searcher_table.proofs.Beside.{AreSame, Apart, call_beside, two_entry}
 use Rattle.searcher_table.proofs.Handing.{calls_after, other_hand}
 use Rattle.searcher_table.proofs.Quiet.{HasSameOpenings, quiet_since}
 
@@ -85,6 +88,7 @@ pub record IsAnswer {W U X L : Type 0} (p : Plan W) (h : Hand U) (e : Entry U X 
   pub answers : Answers h.caller h.asked e
   pub placed : has_place e ≡ true
   pub still : (s : State) → HasSameOpenings s (after s e)
+  pub apart : (l : Limits) (log : List (Entry U X L)) → Apart l log e
   pub lasting : (s t : State) → HasSameOpenings s t → IsAllowed (limits p) s e → IsAllowed (limits p) t e
 
 module _ {W U X L : Type 0} (p : Plan W) (h : Hand U) where
@@ -93,6 +97,7 @@ module _ {W U X L : Type 0} (p : Plan W) (h : Hand U) where
     answers = record { caller = refl; content = refl; call = ap (λ x. Some x) (sym is) };
     placed = refl;
     still = λ _. record { last = refl; warming = refl; free = λ _ e. e };
+    apart = λ l log. record { current = refl; acquired = λ _. refl; opened = λ _ _ is. inl is; stays = λ _ _ is. is; free = λ _ is. is; early = refl; acquire = refl; released = λ _. refl };
     lasting = λ s t o a. record { full = ap length o.warming ∙ a.full; told = a.told ∙ sym o.warming };
   }
 
@@ -101,6 +106,7 @@ module _ {W U X L : Type 0} (p : Plan W) (h : Hand U) where
     answers = record { caller = refl; content = refl; call = ap (λ x. Some x) (sym is) };
     placed = refl;
     still = λ _. record { last = refl; warming = refl; free = λ _ e. e };
+    apart = λ l log. record { current = refl; acquired = λ _. refl; opened = λ _ _ is. inl is; stays = λ _ _ is. is; free = λ _ is. is; early = refl; acquire = refl; released = λ _. refl };
     lasting = λ s t o a. record { room = subst (λ (gs : List ℕ). length gs < p.max_warming) (sym o.warming) a.room; last = o.last ∙ a.last };
   }
 
@@ -113,6 +119,7 @@ is_answer p seen h ToUpdate is = record {
   answers = record { caller = refl; content = refl; call = ap (λ x. Some x) (sym is) };
   placed = refl;
   still = λ _. record { last = refl; warming = refl; free = λ _ e. e };
+  apart = λ l log. record { current = refl; acquired = λ _. refl; opened = λ _ _ is. inl is; stays = λ _ _ is. is; free = λ _ is. is; early = refl; acquire = refl; released = λ _. refl };
   lasting = λ s t o a. tt;
 }
 is_answer p seen h ToOpen is = let gs : List ℕ = (state_of (limits p) seen).warming in refusal p h gs is (length gs == p.max_warming)
@@ -120,9 +127,10 @@ is_answer p seen h ToOpen is = let gs : List ℕ = (state_of (limits p) seen).wa
 module _ {D W U X L : Type 0} (p : Plan W) where
   pub executes : (slots id : ℕ) (me : Me (Cell D U) (Known W U X L)) (i : ℕ) (f : ℕ → ℕ) (h : Hand U) (e : Entry U X L) → i ≡ call_word h.caller → 1 ≤ h.caller → h.caller ≤ 64 → f (code_of h.asked.call) ≡ 0 → me.0.hand ≡ Some h → me.0.registrar ≡ true
       → Answers h.caller h.asked e → MayCome p me.0 e
+      → ((log : List (Entry U X L)) → Legal (limits p) log → AllByRecursion NamesCaller log → IsAllowed (limits p) (state_of (limits p) log) e → Apart (limits p) log e)
       → (then : ℕ → Me (Cell D U) (Known W U X L) → Type 0) → ((n : ℕ) (new : Me (Cell D U) (Known W U X L)) → HasExecuted e me new → then n new)
       → Allows (Kept p) slots id me i f then
-  executes slots id me i f h e at_word low few zero has role answers may then tells s kept deep at small =
+  executes slots id me i f h e at_word low few zero has role answers may apart then tells s kept deep at small =
       let w = kept.world in
       let k = me.0 in
       let c : ℕ = h.caller in
@@ -131,7 +139,8 @@ module _ {D W U X L : Type 0} (p : Plan W) where
       let hand = all.hand h has in
       let now : ℕ → Option (Asked U) = put c None w.pending in
       let log : List (Entry U X L) = w.log ++ e ∷ [] in
-      let legal : Legal (limits p) log = grows_legal (limits p) w.log e kept.legal (may w.log r.seen) in
+      let allowed = may w.log r.seen in
+      let legal : Legal (limits p) log = grows_legal (limits p) w.log e kept.legal allowed in
       let found : f (slice_index s.words i) ≡ 0 = ap f (ap (λ n. slice_index s.words n) at_word ∙ kept.one.calls c low few ∙ ap code hand.pending) ∙ zero in
       let new : Me (Cell D U) (Known W U X L) = (record (looked k log now) { hand = None }, me.1) in (
         new.0,
@@ -141,6 +150,8 @@ module _ {D W U X L : Type 0} (p : Plan W) where
           words = length-set s.words i 0 ∙ kept.words;
           world = moved w log now w.hand_at;
           legal = legal;
+          two = two_entry p w.log e s.words (set s.words i 0) kept.legal (subst (λ (n : ℕ). AreSame s.words (set s.words n 0)) (sym at_word) (call_beside s.words c 0))
+              (apart w.log kept.legal kept.two.named allowed) (subst (λ (o : Option ℕ). IfSome o (λ n. (1 ≤ n) × (n ≤ 64))) (sym answers.caller) (low, few)) kept.two;
           one = one_after p w log now w.hand_at s.words (set s.words i 0) s.views id k None kept.one at (leaves w h e answers W id r.here hand.here hand.pending)
               (λ d l g. subst (λ (n : ℕ). slice_index (set s.words n 0) (call_word d) ≡ code (now d)) (sym at_word) (calls_after s.words w.pending c 0 None kept.words few refl kept.one.calls d l g))
               (λ d past. let u = kept.one.undealt d past in
@@ -165,5 +176,6 @@ module _ {D W U X L : Type 0} (p : Plan W) where
       let a = is_answer p me.0.seen h h.asked.call refl in
       executes slots id me i (λ _. 0) h (answer_of h.asked.call p me.0.seen h) at_word low few refl has role a.answers
       (λ log q. a.lasting (state_of (limits p) me.0.seen) (state_of (limits p) log) (quiet_since (limits p) log me.0.seen q) may)
+      (λ log _ _ _. a.apart (limits p) log)
       (λ _ new. Executed (step slots i 0 0 maybe.none) me 0 new)
       (λ _ new done g r e t. subst (λ (x : Hand U × Plan W). HasExecuted (answer_of x.0.asked.call x.1 me.0.seen x.0) me new) (λ j. (same_Some h g (sym has ∙ e) j, same_Some p r (sym told ∙ t) j)) done)

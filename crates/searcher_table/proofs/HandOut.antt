@@ -60,6 +60,7 @@ module _ {W U X L : Type 0} where
         words = kept.words;
         world = v;
         legal = kept.legal;
+        two = kept.two;
         one = record {
           calls = kept.one.calls;
           fits = each_snoc (Fits p v) left (handed_out k)

@@ -10,6 +10,10 @@ pub mod Execute
 pub mod Open
 pub mod Passing
 pub mod Places
+pub mod Counts
+pub mod Standing
+pub mod Beside
+pub mod Current
 pub mod Registering
 pub mod Beginning
 pub mod Deal

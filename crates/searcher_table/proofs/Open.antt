@@ -18,6 +18,7 @@ use Rattle.searcher_table.specs.Words.{call_word, code_of, limits, last_generati
 use Rattle.searcher_table.specs.Rule.{Kept}
 use Rattle.searcher_table.specs.Steps.{opening_of, HasExecuted, Opened}
 use Rattle.searcher_table.proofs.Quiet.{quiet_since}
+use Rattle.searcher_table.proofs.Beside.{opening_apart}
 use Rattle.searcher_table.proofs.Execute.{executes}
 
 -- the door that is said
@@ -44,6 +45,7 @@ module _ {D W U X L : Type 0} (p : Plan W) where
         slot = omega arith;
         free = o.free (length t.warming) (unused (length t.warming) (omega arith));
       })
+      (λ log legal named may. opening_apart l log h.caller h.asked.content (t.last_opened + 1) (length t.warming) (docs door) legal named may)
       (Opened docs (step slots i 1 0 (some (Full door))) me)
       (λ _ new done g r d e' t' said. subst (λ (x : Hand U × Plan W × D). HasExecuted (opening_of x.1 me.0.seen x.0 (docs x.2)) me new)
       (λ j. (same_Some h g (sym has ∙ e') j, same_Some p r (sym told ∙ t') j, ap (door_or door) said j)) done)

@@ -7,7 +7,7 @@ use Rattle.registry_machine.specs.Entries.{has_place}
 use Rattle.searcher_table.specs.Views.{HasNoPlaceSince}
 
 module _ {A : Type 0} (q : A → Bool) where
-  count_first : (x : A) (xs : List A) → count_by q (x ∷ xs) ≡ cond (q x) 1 0 + count_by q xs
+  pub count_first : (x : A) (xs : List A) → count_by q (x ∷ xs) ≡ cond (q x) 1 0 + count_by q xs
   count_first x xs = sum_by-cons (λ y. cond (q y) 1 0) x xs
 
   pub counts_joined : (xs ys : List A) → count_by q (xs ++ ys) ≡ count_by q xs + count_by q ys

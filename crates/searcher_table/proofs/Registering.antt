@@ -109,23 +109,26 @@ module _ {D U W X L : Type 0} where
       }
 
   -- the registrar has seen a history with no place more
-  pub record HasSeen (r : Registrar D U W X L) (other : Known W U X L) (new : Known W U X L) : Type 0 where
+  pub record HasSeen (r : Registrar D U W X L) (new : Known W U X L) : Type 0 where
     pub seen : HasNoPlaceSince new.seen (seen_of r)
-    pub covers : StartsWith new.seen other.seen
     pub legal : Legal (limits (plan_of r)) new.seen
     pub places : r.places ≡ count_by has_place new.seen
     pub mirrors : Mirrors r new.seen
 
-  pub has_seen : (r : Registrar D U W X L) (other new : Known W U X L) (me : Me (Cell D U) (Known W U X L)) (log : List (Entry U X L)) → me ≡ (joined r.place.me.0 other, r.place.me.1) → Covers me.0 log → new.seen ≡ log → HasSeen r other new
-  has_seen r other new me log is covers sees =
-      let v : Covers (joined r.place.me.0 other) new.seen = subst (λ (l : List (Entry U X L)). Covers (joined r.place.me.0 other) l) (sym sees) (subst (λ (m : Me (Cell D U) (Known W U X L)). Covers m.0 log) is covers) in
+  pub has_seen : (r : Registrar D U W X L) (k new : Known W U X L) (log : List (Entry U X L)) → k.seen ≡ seen_of r → k.plan ≡ r.place.me.0.plan → k.registrar ≡ r.place.me.0.registrar → Covers k log → new.seen ≡ log → HasSeen r new
+  has_seen r k new log same plan role covers sees =
+      let quiet : HasNoPlaceSince new.seen (seen_of r) = subst (λ (z : List (Entry U X L) × List (Entry U X L)). HasNoPlaceSince z.0 z.1) (λ i. (sym sees i, same i)) (covers.places (role ∙ r.role)) in
       record {
-        seen = v.places r.role;
-        covers = v.told;
-        legal = v.legal (plan_of r) r.told;
-        places = r.counted ∙ sym (same_places new.seen (seen_of r) (v.places r.role));
-        mirrors = mirrors r new.seen (quiet_since (limits (plan_of r)) new.seen (seen_of r) (v.places r.role));
+        seen = quiet;
+        legal = subst (λ (l : List (Entry U X L)). Legal (limits (plan_of r)) l) (sym sees) (covers.legal (plan_of r) (plan ∙ r.told));
+        places = r.counted ∙ sym (same_places new.seen (seen_of r) quiet);
+        mirrors = mirrors r new.seen (quiet_since (limits (plan_of r)) new.seen (seen_of r) quiet);
       }
+
+  -- once it has taken another seat in
+  pub met : (r : Registrar D U W X L) (other : Known W U X L) (me new : Me (Cell D U) (Known W U X L)) (log : List (Entry U X L)) → me ≡ (joined r.place.me.0 other, r.place.me.1) → Covers me.0 log → new.0.seen ≡ log → HasSeen r new.0
+  met r other me new log is covers sees = has_seen r me.0 new.0 log (ap (λ (m : Me (Cell D U) (Known W U X L)). m.0.seen) is) (ap (λ (m : Me (Cell D U) (Known W U X L)). m.0.plan) is)
+      (ap (λ (m : Me (Cell D U) (Known W U X L)). m.0.registrar) is) covers sees
 
   -- what the registrar's numbers say of what it has seen: as many are warming as may be
   pub is_full : (r : Registrar D U W X L) (found : List ℕ) → found ≡ listed r.warming → r.max_warming ≤ length found → length (warming_in (plan_of r) (seen_of r)) ≡ (plan_of r).max_warming

@@ -64,6 +64,7 @@ module _ {W U X L : Type 0} where
         words = kept.words;
         world = v;
         legal = kept.legal;
+        two = kept.two;
         one = record {
           calls = kept.one.calls;
           fits = each_set (Fits p v) one other spent (spent_fits p v other)

@@ -18,6 +18,7 @@ use Rattle.searcher_table.specs.Views.{IsStill, WasExecuted, GoesOn}
 use Rattle.searcher_table.specs.Rule.{World, IsPass, IsHand, IsBack, Kept}
 use Rattle.searcher_table.specs.Steps.{looked, Withdrawn}
 use Rattle.searcher_table.proofs.Frame.{put, put_here, put_else, moved, Leaves, one_after, covers}
+use Rattle.searcher_table.proofs.Beside.{AreSame, call_beside, two_words}
 use Rattle.searcher_table.proofs.Handing.{calls_after, another, other_hand}
 
 -- a pass whose call is pending has all its caller's entries
@@ -64,6 +65,7 @@ module _ {D W U X L : Type 0} (p : Plan W) where
           words = length-set s.words i 0 ∙ kept.words;
           world = moved w w.log now w.hand_at;
           legal = kept.legal;
+          two = two_words p w.log s.words (set s.words i 0) kept.legal (subst (λ (n : ℕ). AreSame s.words (set s.words n 0)) (sym at_word) (call_beside s.words c 0)) kept.two;
           one = one_after p w w.log now w.hand_at s.words (set s.words i 0) s.views id k None kept.one at (leaves w id c f.here here)
               (λ d l g. subst (λ (n : ℕ). slice_index (set s.words n 0) (call_word d) ≡ code (now d)) (sym at_word) (calls_after s.words w.pending c 0 None kept.words few refl kept.one.calls d l g))
               (λ d past. let u = kept.one.undealt d past in (put_else c None w.pending d (λ e. let deal = f.dealt in absurd (omega arith)) ∙ u.0, u.1))

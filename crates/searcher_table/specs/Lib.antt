@@ -1,4 +1,5 @@
 pub mod Words
+pub mod Counts
 pub mod Spares
 pub mod Warming
 pub mod Views

@@ -1,5 +1,6 @@
 -- What contracts say of a registrar.
-use Rattle.std.specs.Prelude.{◌≡◌, ℕ, List, [], ◌∷◌, ◌++◌, count_by}
+use Rattle.std.specs.Prelude.{◌≡◌, ℕ, Option, List, [], ◌∷◌, ◌++◌, count_by}
+use Rattle.std.specs.Option.{option_map}
 use Rattle.std.specs.Arc.{arc_value}
 use Rattle.atomic_table.specs.Seated.{TableId}
 use Rattle.registry_machine.specs.declared.entry.Entry.{Entry}
@@ -59,6 +60,17 @@ module _ {D U W X L : Type 0} where
     pub seen : seen_of t ≡ seen_of s
     pub back : back_of t ≡ back_of s
 
+  -- what it has seen goes on from what it had seen, by no entry with a place
+  pub record HasLooked (s t : Registrar D U W X L) : Type 0 where
+    pub registrar : IsSameRegistrar s t
+    pub legal : IsSound t
+    pub back : back_of t ≡ back_of s
+    pub seen : HasNoPlaceSince (seen_of t) (seen_of s)
+
+  -- the generation that is current after what it has seen, with the number of its acquires
+  abbrev pub current_of : Registrar D U W X L → Option (ℕ × ℕ)
+  current_of r = let s = state_of (limits (plan_of r)) (seen_of r) in option_map (λ g. (g, s.acquired g)) s.current
+
   -- it has one pass more that it took back
   pub record HasTakenBack (s t : Registrar D U W X L) (gone : Pass D U W X L) : Type 0 where
     pub registrar : IsSameRegistrar s t
@@ -71,12 +83,9 @@ module _ {D U W X L : Type 0} {shows : Ghosts D W X L} where
     pub table : sighted_at note ≡ table_of t
     pub seen : sighted note ≡ seen_of t
 
-  -- what it has seen goes on from what it had seen, by no entry with a place, and covers what the sighting carries
+  -- it has looked, and what it has seen covers what the sighting carries
   pub record HasMet (s t : Registrar D U W X L) (note : Sighting D U W X L shows) : Type 0 where
-    pub registrar : IsSameRegistrar s t
-    pub legal : IsSound t
-    pub back : back_of t ≡ back_of s
-    pub seen : HasNoPlaceSince (seen_of t) (seen_of s)
+    pub looked : HasLooked s t
     pub covers : StartsWith (seen_of t) (sighted note)
 
   -- a call that opens nothing: an update, or an opening that is refused

@@ -1,11 +1,12 @@
 -- The rule of a table: what holds between any two steps.
-use Rattle.std.specs.Prelude.{◌≡◌, ℕ, ◌<◌, ◌≤◌, true, List, [], length, slice_index, Option, Some, None}
+use Rattle.std.specs.Prelude.{◌≡◌, ◌⊎◌, ℕ, ◌<◌, ◌≤◌, true, List, [], length, count_by, slice_index, Option, Some, None}
 use Rattle.std.specs.List.{AllByRecursion}
 use mathlib.Core.Option.{some}
 use lib.ListN.{get_elem?}
 use Rattle.atomic_table.specs.Table.{State}
 use Rattle.registry_machine.specs.declared.entry.Entry.{Entry}
-use Rattle.registry_machine.specs.Legal.{Legal}
+use Rattle.registry_machine.specs.Machine.{Limits}
+use Rattle.registry_machine.specs.Legal.{Legal, state_of}
 use Rattle.registry_machine.specs.Callers.{mine}
 use Rattle.searcher_table.specs.declared.board.Asked.{Asked}
 use Rattle.searcher_table.specs.declared.board.Cell.{Cell}
@@ -13,7 +14,8 @@ use Rattle.searcher_table.specs.declared.board.Plan.{Plan}
 use Rattle.searcher_table.specs.declared.board.Hand.{Hand}
 use Rattle.searcher_table.specs.declared.board.Own.{Own}
 use Rattle.searcher_table.specs.declared.board.Known.{Known}
-use Rattle.searcher_table.specs.Words.{word_count, call_word, code, limits}
+use Rattle.searcher_table.specs.Words.{word_count, current_word, slot_word, packed, call_word, code, HasSizes, limits}
+use Rattle.searcher_table.specs.Counts.{is_acquire, is_not_yet, releases, NamesCaller}
 use Rattle.searcher_table.specs.Views.{StartsWith, HasNoPlaceSince, GoesOn}
 
 -- what is no function of the history: what each caller has announced, whose seat its pass is and whose its announced call, which seat is the registrar's, and the first caller with no pass yet
@@ -83,9 +85,35 @@ pub record One {W U X L : Type 0} (p : Plan W) (w : World U X L) (words : List �
   pub fits : (id : ℕ) (k : Known W U X L) → get_elem? views id ≡ some k → Fits p w id k
   pub undealt : (c : ℕ) → w.next ≤ c → (w.pending c ≡ None) × (mine c w.log ≡ [])
 
--- There is one legal history. (Part two will be on the current word, the words of slots and pins, part three on masks and doors.)
+-- Nothing is current, and the current word counts the acquires that came too early.
+pub record CountsTooEarly {U X L : Type 0} (l : Limits) (log : List (Entry U X L)) (word : ℕ) : Type 0 where
+  pub none : (state_of l log).current ≡ None
+  pub counted : word ≡ count_by is_not_yet log
+
+-- The current word has the current generation, its slot and its acquires.
+pub record IsPacked {U X L : Type 0} (l : Limits) (log : List (Entry U X L)) (word : ℕ) : Type 0 where
+  pub generation : ℕ
+  pub slot : ℕ
+  pub current : (state_of l log).current ≡ Some generation
+  pub opened : (state_of l log).slots slot ≡ Some generation
+  pub word_is : word ≡ packed generation slot ((state_of l log).acquired generation)
+
+abbrev pub SaysCurrent : {U X L : Type 0} → Limits → List (Entry U X L) → ℕ → Type 0
+SaysCurrent l log word = CountsTooEarly l log word ⊎ IsPacked l log word
+
+-- Part two: the current word, the words of slots, and that no caller acquires more often than it may. Nothing is settled yet, so the word of an open slot counts the releases of its generation alone.
+pub record Two {W U X L : Type 0} (p : Plan W) (log : List (Entry U X L)) (words : List ℕ) : Type 0 where
+  pub sizes : HasSizes p
+  pub current : SaysCurrent (limits p) log (slice_index words current_word)
+  pub opened : (slot g : ℕ) → (state_of (limits p) log).slots slot ≡ Some g → slice_index words (slot_word slot) ≡ count_by (releases g) log
+  pub free : (slot : ℕ) → slot < 70 → (state_of (limits p) log).slots slot ≡ None → slice_index words (slot_word slot) ≡ 0
+  pub named : AllByRecursion NamesCaller log
+  pub within : (c : ℕ) → count_by is_acquire (mine c log) ≤ p.budget
+
+-- There is one legal history. (Part three will be on masks and doors.)
 pub record Kept {D W U X L : Type 0} (p : Plan W) (s : State (Cell D U) (Known W U X L)) : Type 0 where
   pub words : length s.words ≡ word_count
   pub world : World U X L
   pub legal : Legal (limits p) world.log
   pub one : One p world s.words s.views
+  pub two : Two p world.log s.words

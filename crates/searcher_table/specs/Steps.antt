@@ -1,9 +1,10 @@
 -- What each kind of step tells the seat that makes it, and how views are split and joined.
-use Rattle.std.specs.Prelude.{◌≡◌, ℕ, ◌+◌, ◌≤◌, ◌==◌, if◌then◌else◌, true, false, List, [], ◌∷◌, ◌++◌, length, Option, Some, None}
+use Rattle.std.specs.Prelude.{◌≡◌, ◌⊎◌, ℕ, ◌+◌, ◌<◌, ◌≤◌, ◌/◌, ◌%◌, ◌==◌, if◌then◌else◌, true, false, List, [], ◌∷◌, ◌++◌, length, Option, Some, None}
 use mathlib.Core.Option.{some}
 use Rattle.atomic_table.specs.Table.{Me, Step}
 use Rattle.registry_machine.specs.declared.entry.Entry.{Entry}
 use Rattle.registry_machine.specs.declared.entry.Entry.TheVariants.{Open, TooMany, GenerationsSpent, Update}
+use Rattle.registry_machine.specs.Machine.{Limits}
 use Rattle.registry_machine.specs.Legal.{Legal, state_of}
 use Rattle.registry_machine.specs.Callers.{mine}
 use Rattle.searcher_table.specs.declared.board.Call.{Call}
@@ -16,6 +17,21 @@ use Rattle.searcher_table.specs.declared.board.Hand.{Hand}
 use Rattle.searcher_table.specs.declared.board.Known.{Known}
 use Rattle.searcher_table.specs.Words.{limits}
 use Rattle.searcher_table.specs.Views.{StartsWith, HasNoPlaceSince, GoesOn}
+
+module _ {U X L : Type 0} where
+  -- the current word tells that nothing is current, or the current generation, its slot and its acquires
+  pub record TellsNone (l : Limits) (log : List (Entry U X L)) (word : ℕ) : Type 0 where
+    pub none : (state_of l log).current ≡ None
+    pub early : word < 549755813888
+
+  pub record TellsGeneration (l : Limits) (log : List (Entry U X L)) (word : ℕ) : Type 0 where
+    pub current : (state_of l log).current ≡ Some (word / 549755813888)
+    pub opened : (state_of l log).slots (word / 4294967296 % 128) ≡ Some (word / 549755813888)
+    pub count : (state_of l log).acquired (word / 549755813888) ≡ word % 4294967296
+    pub some : 549755813888 ≤ word
+
+  abbrev pub TellsCurrent : Limits → List (Entry U X L) → ℕ → Type 0
+  TellsCurrent l log word = TellsNone l log word ⊎ TellsGeneration l log word
 
 module _ {W U X L : Type 0} where
   -- the entry of an opening that shows these documents
@@ -97,6 +113,11 @@ module _ {W U X L : Type 0} where
       pub covers : Covers before.0 log
       pub calls : 1 ≤ before.0.caller → GoesOn before.0.caller before.0.mine before.0.announced (mine before.0.caller log) (pending before.0.caller)
       pub after : new ≡ (looked before.0 log pending, before.1)
+
+    -- and the current word told what is current
+    pub record Peeked (step : Step (Cell D U)) (before : Me (Cell D U) (Known W U X L)) (found : ℕ) (new : Me (Cell D U) (Known W U X L)) : Type 0 where
+      pub looked : Looked step before found new
+      pub tells : (p : Plan W) → before.0.plan ≡ Some p → TellsCurrent (limits p) looked.log found
 
     -- this was announced, and the caller has no entry more
     pub record HasAnnounced (asked : Asked U) (before new : Me (Cell D U) (Known W U X L)) : Type 0 where

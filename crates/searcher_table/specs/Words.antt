@@ -1,5 +1,5 @@
 -- The words of a table, and what its machine allows.
-use Rattle.std.specs.Prelude.{◌≡◌, ℕ, ◌+◌, ◌*◌, Option, Some, None}
+use Rattle.std.specs.Prelude.{◌≡◌, ℕ, ◌+◌, ◌*◌, ◌≤◌, Option, Some, None}
 use Rattle.registry_machine.specs.Machine.{Limits}
 use Rattle.searcher_table.specs.declared.board.Call.{Call}
 use Rattle.searcher_table.specs.declared.board.Call.TheVariants.{Open, Update}
@@ -10,6 +10,17 @@ use Rattle.searcher_table.specs.declared.board.Plan.{Plan}
 
 abbrev pub word_count : ℕ
 word_count = 1168
+
+-- the word that says what is current, and the one of a slot
+abbrev pub current_word : ℕ
+current_word = 8
+
+abbrev pub slot_word : ℕ → ℕ
+slot_word slot = 64 + 8 * slot
+
+-- the current word: the generation in 25 bits, its slot in 7, and the count of its acquires in 32
+abbrev pub packed : ℕ → ℕ → ℕ → ℕ
+packed generation slot count = generation * 549755813888 + slot * 4294967296 + count
 
 -- the word in which a caller announces
 abbrev pub call_word : ℕ → ℕ
@@ -32,6 +43,13 @@ IsSaid {D} {U} cell = (asked : Asked U) × (cell ≡ Said asked)
 -- the last generation that can be opened
 abbrev pub last_generation : ℕ
 last_generation = 33554431
+
+-- what a table can be made with
+pub record HasSizes {W : Type 0} (p : Plan W) : Type 0 where
+  pub callers : p.callers ≤ 64
+  pub warming : p.max_warming ≤ 4
+  pub generation : (1 ≤ p.first_generation) × (p.first_generation ≤ last_generation)
+  pub budget : p.budget ≤ 67108863
 
 -- each caller may keep a slot, each warming generation has one, and so has the current one; one is left
 abbrev pub limits : {W : Type 0} → Plan W → Limits

@@ -126,6 +126,7 @@ impl<D: Shown, U: Drop> Registrar<D, U> {
         requires warming { plan.now.max_warming ≤ 4 }
         requires first { 1 ≤ plan.now.first_generation }
         requires last { plan.now.first_generation ≤ 33554431 }
+        requires budget { plan.now.budget ≤ 67108863 }
         ensures plan { IfOk result (λ r. plan_of r ≡ plan.now) }
         ensures opening { IfOk result IsOpening }
         ensures next { IfOk result (λ r. next_of r ≡ 1) }

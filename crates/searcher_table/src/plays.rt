@@ -1,5 +1,5 @@
 // The kinds of step, which are for the proofs alone.
-ghost use Rattle.searcher_table.specs.Steps.{Looked, Announced, Withdrawn, Executed, kept_back, handed_out, keeps_others, dealt_out, joined, taken_back, spent};
+ghost use Rattle.searcher_table.specs.Steps.{Looked, Peeked, Announced, Withdrawn, Executed, kept_back, handed_out, keeps_others, dealt_out, joined, taken_back, spent};
 ghost use Rattle.searcher_table.specs.Steps.{Opened};
 
 use crate::board::{Cell, Known};
@@ -11,6 +11,13 @@ pub(crate) struct Look;
 
 impl<D: Shown, U> Play<Cell<D, U>, Known<D::Setting, U, D::Docs, D::Deed>> for Look {
     ghost then = { Looked };
+}
+
+// The current word is read, and the history so far is seen.
+pub(crate) struct Peek;
+
+impl<D: Shown, U> Play<Cell<D, U>, Known<D::Setting, U, D::Docs, D::Deed>> for Peek {
+    ghost then = { Peeked };
 }
 
 // A caller's word goes from 0 to the number of the call that it announces.

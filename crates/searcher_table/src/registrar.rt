@@ -4,10 +4,12 @@ ghost use Rattle.registry_machine.specs.Entries.{has_place};
 ghost use Rattle.searcher_table.specs.Spares.{AreAt};
 ghost use Rattle.searcher_table.specs.Warming.{listed, last_in, warming_in, AreUnused};
 
-use crate::board::{CALLS, Cell, LAST_GENERATION, Link, Place, REGISTRAR, SharedTable};
+use crate::board::{
+    CALLS, CURRENT, Cell, GENERATION, LAST_GENERATION, Link, Place, REGISTRAR, SLOT, SharedTable,
+};
 use crate::gens::Gens;
 use crate::pass::Pass;
-use crate::plays::{Execute, Gather, HandOut, Look, OpenNext, TakeBack};
+use crate::plays::{Execute, Gather, HandOut, Look, OpenNext, Peek, TakeBack};
 use crate::shown::Shown;
 use crate::tokens::{Announced, OpenRefusal, Opening, Sighting};
 
@@ -49,7 +51,7 @@ impl<D: Shown, U: Drop> Registrar<D, U> {
     ghost use Rattle.searcher_table.specs.Openings.{MayOpen, AreDoors, IsOpenHere, HasOpened, IsRefused};
     ghost use Rattle.searcher_table.specs.Passes.{sighted_at, announced_of, table_of as table_of_pass};
     ghost use Rattle.searcher_table.specs.Registrars.{table_of, places_of, MayAnswer, answer_to, HasEntry};
-    ghost use Rattle.searcher_table.specs.Registrars.{IsUnchanged, IsSightingOf, HasMet};
+    ghost use Rattle.searcher_table.specs.Registrars.{IsUnchanged, IsSightingOf, HasLooked, HasMet, current_of};
     ghost use Rattle.searcher_table.specs.Registrars.{IsUpdateHere, HasUpdated, HasTakenBack};
 
     /// Executes an announced update: it has its entry, whose place this gives with the content. It is one step, takes
@@ -181,6 +183,19 @@ impl<D: Shown, U: Drop> Registrar<D, U> {
         let shared = &self.table.shared;
         shared.join_seat::<Gather>(&mut self.place, place);
         shared.load::<Look>(&mut self.place, REGISTRAR);
+    }
+
+    /// The generation that is current, with the number of its acquires so far; none where nothing is. It is one load, takes
+    /// no memory and doesn't wait.
+    pub fn current(&mut self) -> Option<(u32, u32)>
+        ensures registrar { HasLooked self.old self.new }
+        ensures current { result ≡ current_of self.new }
+    {
+        let word = self.table.shared.load::<Peek>(&mut self.place, CURRENT);
+        if word < GENERATION {
+            return None;
+        }
+        Some(((word / GENERATION) as u32, (word % SLOT) as u32))
     }
 
     /// Takes a pass back, whose caller's entries the registrar then keeps. It takes no memory and doesn't wait.

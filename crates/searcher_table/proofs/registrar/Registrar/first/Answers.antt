@@ -5,7 +5,9 @@ use Rattle.searcher_table.proofs.Beginning.{opens, all_zero}
 use Rattle.searcher_table.proofs.registrar.Registrar.first.Goals as goal
 
 pub new-requires : goal.new-requires
-new-requires g c = opens c.args.plan.now _ c.in_ok-cells.cells.items refl (all_zero 1168)
+new-requires g c =
+    let r = c.requires in
+    opens c.args.plan.now _ c.in_ok-cells.cells.items record { callers = r.callers.1; warming = r.warming; generation = (r.first, r.last); budget = r.budget } refl (all_zero 1168)
 
 pub invariant_of-result-clause-spares : goal.invariant_of-result-clause-spares
 invariant_of-result-clause-spares g c =

@@ -1,5 +1,7 @@
-use Rattle.std.proofs.Common.{◌≡◌, ◌∙◌, refl, sym, ap, subst, arith}
-use Rattle.searcher_table.proofs.Registering.{has_seen}
+use Rattle.std.proofs.Common.{◌≡◌, ◌∙◌, List, refl, sym, ap, subst, arith}
+use Rattle.searcher_table.proofs.Registering.{met}
+use Rattle.registry_machine.specs.declared.entry.Entry.{Entry}
+use Rattle.searcher_table.specs.Views.{StartsWith}
 use Rattle.searcher_table.specs.Spares.{AreAt}
 use Rattle.searcher_table.proofs.Gather.{joins}
 use Rattle.searcher_table.proofs.Look.{looks}
@@ -31,24 +33,16 @@ load-requires g c =
     )
 
 pub invariant_of-self-clause-counted : goal.invariant_of-self-clause-counted
-invariant_of-self-clause-counted g c =
-    let l = c.load.ensures.2 in
-    (has_seen c.args.self.now c.args.note.place.me.0 c.load.new.seat.me.0 c.join_seat.new.seat.me l.log c.join_seat.ensures.2 l.covers (ap (λ m. m.0.seen) l.after)).places
+invariant_of-self-clause-counted g c = (met c.args.self.now c.args.note.place.me.0 c.join_seat.new.seat.me c.load.new.seat.me c.load.ensures.2.log c.join_seat.ensures.2 c.load.ensures.2.covers (ap (λ m. m.0.seen) c.load.ensures.2.after)).places
 
 pub invariant_of-self-clause-last_is : goal.invariant_of-self-clause-last_is
-invariant_of-self-clause-last_is g c =
-    let l = c.load.ensures.2 in
-    (has_seen c.args.self.now c.args.note.place.me.0 c.load.new.seat.me.0 c.join_seat.new.seat.me l.log c.join_seat.ensures.2 l.covers (ap (λ m. m.0.seen) l.after)).mirrors.last
+invariant_of-self-clause-last_is g c = (met c.args.self.now c.args.note.place.me.0 c.join_seat.new.seat.me c.load.new.seat.me c.load.ensures.2.log c.join_seat.ensures.2 c.load.ensures.2.covers (ap (λ m. m.0.seen) c.load.ensures.2.after)).mirrors.last
 
 pub invariant_of-self-clause-warming_are : goal.invariant_of-self-clause-warming_are
-invariant_of-self-clause-warming_are g c =
-    let l = c.load.ensures.2 in
-    (has_seen c.args.self.now c.args.note.place.me.0 c.load.new.seat.me.0 c.join_seat.new.seat.me l.log c.join_seat.ensures.2 l.covers (ap (λ m. m.0.seen) l.after)).mirrors.warming
+invariant_of-self-clause-warming_are g c = (met c.args.self.now c.args.note.place.me.0 c.join_seat.new.seat.me c.load.new.seat.me c.load.ensures.2.log c.join_seat.ensures.2 c.load.ensures.2.covers (ap (λ m. m.0.seen) c.load.ensures.2.after)).mirrors.warming
 
 pub invariant_of-self-clause-unused : goal.invariant_of-self-clause-unused
-invariant_of-self-clause-unused g c =
-    let l = c.load.ensures.2 in
-    (has_seen c.args.self.now c.args.note.place.me.0 c.load.new.seat.me.0 c.join_seat.new.seat.me l.log c.join_seat.ensures.2 l.covers (ap (λ m. m.0.seen) l.after)).mirrors.unused
+invariant_of-self-clause-unused g c = (met c.args.self.now c.args.note.place.me.0 c.join_seat.new.seat.me c.load.new.seat.me c.load.ensures.2.log c.join_seat.ensures.2 c.load.ensures.2.covers (ap (λ m. m.0.seen) c.load.ensures.2.after)).mirrors.unused
 
 pub invariant_of-self-clause-spares : goal.invariant_of-self-clause-spares
 invariant_of-self-clause-spares g c = subst (λ z. AreAt z c.args.self.now.spare.items) (sym (c.load.ensures.0 ∙ c.join_seat.ensures.0)) c.args.self.now.spares
@@ -56,11 +50,15 @@ invariant_of-self-clause-spares g c = subst (λ z. AreAt z c.args.self.now.spare
 pub returns : goal.returns
 returns g c =
     let l = c.load.ensures.2 in
-    let h = has_seen c.args.self.now c.args.note.place.me.0 c.load.new.seat.me.0 c.join_seat.new.seat.me l.log c.join_seat.ensures.2 l.covers (ap (λ m. m.0.seen) l.after) in
+    let e = c.join_seat.ensures in
+    let h = met c.args.self.now c.args.note.place.me.0 c.join_seat.new.seat.me c.load.new.seat.me c.load.ensures.2.log c.join_seat.ensures.2 c.load.ensures.2.covers (ap (λ m. m.0.seen) c.load.ensures.2.after) in
     record {
-      registrar = record { table = c.load.ensures.0 ∙ c.join_seat.ensures.0; plan = refl };
-      legal = h.legal;
-      back = ap (λ m. m.0.back) l.after ∙ ap (λ m. m.0.back) c.join_seat.ensures.2;
-      seen = h.seen;
-      covers = h.covers;
+      looked = record {
+        registrar = record { table = c.load.ensures.0 ∙ e.0; plan = refl };
+        legal = h.legal;
+        back = ap (λ m. m.0.back) l.after ∙ ap (λ m. m.0.back) e.2;
+        seen = h.seen;
+      };
+      covers = subst (λ (z : List (Entry g.row.U.Denot g.row.D-Docs.Denot g.row.D-Deed.Denot) × List (Entry g.row.U.Denot g.row.D-Docs.Denot g.row.D-Deed.Denot)). StartsWith z.0 z.1)
+          (λ i. (ap (λ m. m.0.seen) (sym l.after) i, ap (λ m. m.0.told) e.2 i)) l.covers.told;
     }
