@@ -61,6 +61,7 @@ module _ {W U X L : Type 0} (p : Plan W) (log : List (Entry U X L)) (words : Lis
       inr record {
         current = k.current ∙ ap (λ x. Some x) (sym g);
         opened = ap s.slots t ∙ k.opened ∙ ap (λ x. Some x) (sym g);
+        below = (let a = i.slot in omega arith);
         count = ap s.acquired g ∙ sym c;
         some = (let a = i.least in omega arith);
       })

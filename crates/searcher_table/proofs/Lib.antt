@@ -14,6 +14,10 @@ pub mod Counts
 pub mod Standing
 pub mod Beside
 pub mod Current
+pub mod OwnStep
+pub mod Acquire
+pub mod Release
+pub mod Pinning
 pub mod Registering
 pub mod Beginning
 pub mod Deal

@@ -1,5 +1,5 @@
 -- What a step tells of a pass.
-use Rattle.std.proofs.Common.{◌≡◌, ℕ, ◌+◌, ◌≤◌, List, [], ◌∷◌, ◌++◌, length, length-append, sym, refl, ap, ◌∙◌, subst, arith, Option, Some, None}
+use Rattle.std.proofs.Common.{◌≡◌, ℕ, ◌+◌, ◌≤◌, List, [], ◌∷◌, ◌++◌, count_by, length, length-append, sym, refl, ap, ◌∙◌, subst, arith, Option, Some, None}
 use Rattle.atomic_table.specs.Table.{Me}
 use Rattle.registry_machine.specs.declared.entry.Entry.{Entry}
 use Rattle.registry_machine.specs.Callers.{mine}
@@ -13,7 +13,9 @@ use Rattle.searcher_table.specs.Words.{limits}
 use Rattle.searcher_table.specs.Views.{StartsWith, GoesOn}
 use Rattle.searcher_table.specs.Steps.{looked, joined, kept_back, Covers}
 use Rattle.searcher_table.specs.Passes.{plan_of, seen_of, mine_of, announced_of, IsSamePass, HasSeenMore, HasLooked}
+use Rattle.searcher_table.specs.Counts.{is_acquire, pinned}
 use Rattle.searcher_table.proofs.Frame.{own_joined}
+use Rattle.searcher_table.proofs.OwnStep.{pinned_still, acquires_still}
 
 -- what a seat knows after a step
 pub record Knows {W U X L : Type 0} (k n : Known W U X L) (log : List (Entry U X L)) (pending : ℕ → Option (Asked U)) (held : Option (Hand U)) : Type 0 where
@@ -106,6 +108,19 @@ module _ {D U W X L : Type 0} where
 
     pub plan_after : n.plan ≡ Some (plan_of s)
     plan_after = k.plan ∙ s.told
+
+    -- where what was announced was executed meanwhile or not, nothing is pinned, and nothing more was acquired
+    module _ (calls : 1 ≤ s.place.me.0.caller → GoesOn s.place.me.0.caller s.place.me.0.mine s.place.me.0.announced (mine s.place.me.0.caller log) (pending s.place.me.0.caller)) where
+      goes : GoesOn s.place.me.0.caller s.place.me.0.mine s.place.me.0.announced n.mine (pending s.place.me.0.caller)
+      goes = let m = s.numbered in let r = s.ranged in
+          subst (λ (es : List (Entry U X L)). GoesOn s.place.me.0.caller s.place.me.0.mine s.place.me.0.announced es (pending s.place.me.0.caller)) (sym k.mine) (calls (omega arith))
+
+      pub unpinned_after : pinned s.caller n.mine ≡ None
+      unpinned_after = ap (λ c. pinned c n.mine) (sym s.numbered) ∙ pinned_still s.place.me.0.caller s.place.me.0.mine n.mine s.place.me.0.announced (pending s.place.me.0.caller) goes
+          ∙ ap (λ c. pinned c s.place.me.0.mine) s.numbered ∙ s.unpinned
+
+      pub tried_after : s.made ≡ count_by is_acquire n.mine
+      tried_after = s.tried ∙ sym (acquires_still s.place.me.0.caller s.place.me.0.mine n.mine s.place.me.0.announced (pending s.place.me.0.caller) goes)
 
   -- what is seen after a step prolongs what was seen
   pub seen_more : (s t : Pass D U W X L) (log : List (Entry U X L)) (own : List (Entry U X L)) → IsSamePass s t → seen_of t ≡ log → t.place.me.0.steps ≡ s.place.me.0.steps + 1

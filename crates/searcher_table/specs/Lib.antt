@@ -6,6 +6,7 @@ pub mod Views
 pub mod Rule
 pub mod Steps
 pub mod Passes
+pub mod Pins
 pub mod Registrars
 pub mod Openings
 pub mod Making

@@ -3,7 +3,7 @@ use Rattle.std.specs.Prelude.{◌≡◌, ◌⊎◌, ℕ, ◌+◌, ◌<◌, ◌�
 use mathlib.Core.Option.{some}
 use Rattle.atomic_table.specs.Table.{Me, Step}
 use Rattle.registry_machine.specs.declared.entry.Entry.{Entry}
-use Rattle.registry_machine.specs.declared.entry.Entry.TheVariants.{Open, TooMany, GenerationsSpent, Update}
+use Rattle.registry_machine.specs.declared.entry.Entry.TheVariants.{Open, TooMany, GenerationsSpent, Update, Acquire, NotYet, Release}
 use Rattle.registry_machine.specs.Machine.{Limits}
 use Rattle.registry_machine.specs.Legal.{Legal, state_of}
 use Rattle.registry_machine.specs.Callers.{mine}
@@ -16,6 +16,7 @@ use Rattle.searcher_table.specs.declared.board.Plan.{Plan}
 use Rattle.searcher_table.specs.declared.board.Hand.{Hand}
 use Rattle.searcher_table.specs.declared.board.Known.{Known}
 use Rattle.searcher_table.specs.Words.{limits}
+use Rattle.searcher_table.specs.Counts.{pinned}
 use Rattle.searcher_table.specs.Views.{StartsWith, HasNoPlaceSince, GoesOn}
 
 module _ {U X L : Type 0} where
@@ -27,11 +28,16 @@ module _ {U X L : Type 0} where
   pub record TellsGeneration (l : Limits) (log : List (Entry U X L)) (word : ℕ) : Type 0 where
     pub current : (state_of l log).current ≡ Some (word / 549755813888)
     pub opened : (state_of l log).slots (word / 4294967296 % 128) ≡ Some (word / 549755813888)
+    pub below : word / 4294967296 % 128 < 70
     pub count : (state_of l log).acquired (word / 549755813888) ≡ word % 4294967296
     pub some : 549755813888 ≤ word
 
   abbrev pub TellsCurrent : Limits → List (Entry U X L) → ℕ → Type 0
   TellsCurrent l log word = TellsNone l log word ⊎ TellsGeneration l log word
+
+  -- what an acquire by this caller has, where this was the current word: the current generation and the number of its acquires before
+  abbrev pub acquire_of : ℕ → ℕ → Entry U X L
+  acquire_of c word = if word / 549755813888 == 0 then NotYet c else Acquire c (word / 549755813888) (word % 4294967296)
 
 module _ {W U X L : Type 0} where
   -- the entry of an opening that shows these documents
@@ -156,3 +162,17 @@ module _ {W U X L : Type 0} where
     abbrev pub Opened : (D → X) → Step (Cell D U) → Me (Cell D U) (Known W U X L) → ℕ → Me (Cell D U) (Known W U X L) → Type 0
     Opened docs step before found after = (h : Hand U) (p : Plan W) (door : D) → before.0.hand ≡ Some h → before.0.plan ≡ Some p → step.said ≡ some (Full door)
         → HasExecuted (opening_of p before.0.seen h (docs door)) before after
+
+    -- the caller has this entry last, behind those that it had and, where what it had announced was executed meanwhile, that call's one
+    pub record HasMade (e : Entry U X L) (before new : Me (Cell D U) (Known W U X L)) : Type 0 where
+      pub entered : HasExecuted e before new
+      pub calls : 1 ≤ before.0.caller → GoesOn before.0.caller before.0.mine before.0.announced (mine before.0.caller entered.log) (entered.pending before.0.caller)
+
+    -- the current word counts one acquire more
+    pub record Acquired (step : Step (Cell D U)) (before : Me (Cell D U) (Known W U X L)) (found : ℕ) (new : Me (Cell D U) (Known W U X L)) : Type 0 where
+      pub made : HasMade (acquire_of before.0.caller found) before new
+      pub tells : (p : Plan W) → before.0.plan ≡ Some p → TellsCurrent (limits p) made.entered.log found
+
+    -- the generation that the caller pinned is released
+    abbrev pub Released : Step (Cell D U) → Me (Cell D U) (Known W U X L) → ℕ → Me (Cell D U) (Known W U X L) → Type 0
+    Released step before found after = (g : ℕ) → pinned before.0.caller before.0.mine ≡ Some g → HasMade (Release before.0.caller g []) before after

@@ -24,6 +24,9 @@ pub(crate) const SLOT: u64 = 4_294_967_296;
 /// The word that the registrar reads to see the history.
 pub(crate) const REGISTRAR: usize = 16;
 
+/// The word of slot 0: slot s has the s-th cache line behind. It counts the releases of the generation in the slot.
+pub(crate) const SLOTS: usize = 64;
+
 /// Before the words in which callers announce: caller c has the c-th cache line behind.
 pub(crate) const CALLS: usize = 640;
 

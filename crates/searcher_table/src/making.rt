@@ -47,7 +47,7 @@ pub fn make<D: Shown, U: Drop>(
     };
     let mut registrar = Registrar::first(alloc, &plan)?;
     for caller in 1..callers + 1 {
-        deal(&mut passes, &mut registrar, caller)?;
+        deal(&mut passes, &mut registrar, caller, budget)?;
     }
     Ok((passes, registrar))
 }
@@ -61,7 +61,9 @@ fn deal<D: Shown, U: Drop>(
     passes: &mut Vec<Pass<D, U>>,
     registrar: &mut Registrar<D, U>,
     caller: u32,
+    budget: u32,
 ) -> Result<(), NoMemory>
+    requires budget { budget ≡ (plan_of registrar.old).budget }
     requires room { vec_len passes.old < vec_capacity passes.old }
     requires next { IsNext registrar.old passes.old.items caller }
     requires few { caller ≤ 64 }
@@ -71,7 +73,7 @@ fn deal<D: Shown, U: Drop>(
     ensures plan { IfOk result (λ _. plan_of registrar.new ≡ plan_of registrar.old) }
     ensures room { vec_capacity passes.new ≡ vec_capacity passes.old }
 {
-    let pass = registrar.deal(caller)?;
+    let pass = registrar.deal(caller, budget)?;
     passes.push_reserved(pass);
     Ok(())
 }
@@ -152,7 +154,8 @@ impl<D: Shown, U: Drop> Registrar<D, U> {
     }
 
     // Deals the next caller's pass.
-    fn deal(&mut self, caller: u32) -> Result<Pass<D, U>, NoMemory>
+    fn deal(&mut self, caller: u32, budget: u32) -> Result<Pass<D, U>, NoMemory>
+        requires budget { budget ≡ (plan_of self.old).budget }
         requires next { (next_of self.old ≡ caller) × (1 ≤ caller) × (caller ≤ 64) }
         ensures registrar { IfOk result (λ _. HasDealt self.old self.new) }
         ensures pass { IfOk result (λ pass. IsNewPass self.new caller pass) }
@@ -163,6 +166,8 @@ impl<D: Shown, U: Drop> Registrar<D, U> {
         let place = self.table.shared.split_seat::<Deal>(&mut self.place);
         Ok(Pass {
             caller,
+            made: 0,
+            budget,
             place,
             table,
         })

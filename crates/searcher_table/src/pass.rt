@@ -1,6 +1,7 @@
-ghost use Rattle.std.specs.Prelude.{◌≡◌, ◌≤◌, [], Some, None};
+ghost use Rattle.std.specs.Prelude.{◌≡◌, ◌≤◌, [], Some, None, count_by};
 ghost use Rattle.std.specs.Arc.{arc_value};
 ghost use Rattle.registry_machine.specs.Callers.{mine};
+ghost use Rattle.searcher_table.specs.Counts.{is_acquire, pinned};
 
 use crate::board::{Asked, CALLS, Call, Cell, Place, SharedTable};
 use crate::plays::{Announce, Gather, HandOut, Look, Withdraw};
@@ -11,6 +12,9 @@ use crate::tokens::{Announced, Sighting};
 #[derive(Drop)]
 pub struct Pass<D: Shown, U: Drop> {
     pub(crate) caller: u32,
+    // How often the caller has acquired, and may.
+    pub(crate) made: u32,
+    pub(crate) budget: u32,
     pub(crate) place: Place<D, U, D::Setting, D::Docs, D::Deed>,
     pub(crate) table: SharedTable<D, U, D::Setting, D::Docs, D::Deed>,
     ghost at_table: { place.table_id ≡ (arc_value table).shared.table_id },
@@ -19,6 +23,10 @@ pub struct Pass<D: Shown, U: Drop> {
     ghost numbered: { place.me.0.caller ≡ caller },
     ghost ranged: { (1 ≤ caller) × (caller ≤ 64) },
     ghost own: { place.me.0.mine ≡ mine caller place.me.0.seen },
+    ghost tried: { made ≡ count_by is_acquire place.me.0.mine },
+    ghost most: { budget ≡ (arc_value table).shared.key.budget },
+    ghost within: { made ≤ budget },
+    ghost unpinned: { pinned caller place.me.0.mine ≡ None },
     ghost empty_handed: { place.me.0.hand ≡ None },
     ghost none_back: { place.me.0.back ≡ [] },
     ghost bare: { place.me.1 ≡ [] },

@@ -1,6 +1,6 @@
 // The kinds of step, which are for the proofs alone.
 ghost use Rattle.searcher_table.specs.Steps.{Looked, Peeked, Announced, Withdrawn, Executed, kept_back, handed_out, keeps_others, dealt_out, joined, taken_back, spent};
-ghost use Rattle.searcher_table.specs.Steps.{Opened};
+ghost use Rattle.searcher_table.specs.Steps.{Opened, Acquired, Released};
 
 use crate::board::{Cell, Known};
 use crate::shown::Shown;
@@ -46,6 +46,20 @@ pub(crate) struct OpenNext;
 
 impl<D: Shown, U> Play<Cell<D, U>, Known<D::Setting, U, D::Docs, D::Deed>> for OpenNext {
     ghost then = { Opened D.docs };
+}
+
+// The current word counts one acquire more, and the caller has its entry.
+pub(crate) struct Acquire;
+
+impl<D: Shown, U> Play<Cell<D, U>, Known<D::Setting, U, D::Docs, D::Deed>> for Acquire {
+    ghost then = { Acquired };
+}
+
+// The word of a slot counts one release more, and the caller has its entry.
+pub(crate) struct Release;
+
+impl<D: Shown, U> Play<Cell<D, U>, Known<D::Setting, U, D::Docs, D::Deed>> for Release {
+    ghost then = { Released };
 }
 
 // What was seen goes along to a seat of its own, with what was announced, if anything is.

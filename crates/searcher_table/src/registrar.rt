@@ -206,6 +206,8 @@ impl<D: Shown, U: Drop> Registrar<D, U> {
     {
         let Pass {
             caller: _,
+            made: _,
+            budget: _,
             place,
             table: _,
         } = pass;

@@ -1,7 +1,8 @@
-use Rattle.std.proofs.Common.{◌≡◌, ◌∙◌, [], Some, None, refl, sym, ap, arith}
+use Rattle.std.proofs.Common.{◌≡◌, ◌∙◌, [], Some, None, count_by, refl, sym, ap, arith}
 use Rattle.searcher_table.specs.declared.board.Asked.{Asked}
 use Rattle.searcher_table.specs.declared.board.Hand.{Hand}
 use Rattle.registry_machine.specs.Callers.{mine}
+use Rattle.searcher_table.specs.Counts.{is_acquire, pinned}
 use Rattle.searcher_table.specs.Steps.{kept_back}
 use Rattle.searcher_table.proofs.Announce.{announces, said_same}
 use Rattle.searcher_table.proofs.HandOut.{splits}
@@ -47,6 +48,7 @@ invariant_of-self g c =
     let k = knows_kept (knows pass.place.me c.compare_exchange_with.new.seat.me a.log a.pending (Some hand) a.after) in
     let e = c.split_seat-place.ensures in
     let id : c.split_seat-place.new.seat.table_id ≡ pass.place.table_id = e.0 ∙ c.compare_exchange_with.ensures.0 in
+    let own = ap (λ m. m.0.mine) e.2 ∙ k.mine ∙ a.mine in
     record {
       at_table = id ∙ pass.at_table;
       sized = ap (λ z. z.words) id ∙ pass.sized;
@@ -54,6 +56,10 @@ invariant_of-self g c =
       numbered = ap (λ m. m.0.caller) e.2 ∙ k.caller ∙ pass.numbered;
       ranged = pass.ranged;
       own = ap (λ m. m.0.mine) e.2 ∙ own_after pass (kept_back c.compare_exchange_with.new.seat.me.0) a.log a.pending None k ∙ ap (λ m. mine pass.caller m.0.seen) (sym e.2);
+      tried = pass.tried ∙ sym (ap (count_by is_acquire) own);
+      most = pass.most;
+      within = pass.within;
+      unpinned = ap (pinned pass.caller) own ∙ pass.unpinned;
       empty_handed = ap (λ m. m.0.hand) e.2;
       none_back = ap (λ m. m.0.back) e.2 ∙ k.back ∙ pass.none_back;
       bare = ap (λ m. m.1) e.2 ∙ ap (λ m. m.1) a.after ∙ pass.bare;

@@ -1,0 +1,188 @@
+-- Acquiring keeps the rule: the current word counts one more, and the caller pins what is current, if anything is.
+use Rattle.std.proofs.Common.{◌≡◌, ℕ, ◌+◌, ◌/◌, ◌%◌, ◌≤◌, ◌<◌, ◌==◌, Bool, true, false, cond, List, [], ◌∷◌, ◌++◌, count_by, length, set, get_or-set_same, get_or-set_other, eq-eqb, ne_eqb, refl, sym, ap, ◌∙◌, subst, arith, inl, inr, ⊎_elim, Option, Some, None}
+use mathlib.Core.Option as maybe
+use mathlib.Core.Logic.{dite}
+use native.Mathlib.Decide.{ℕ_discrete}
+use Rattle.std.specs.Prelude.{slice_index, ◌^◌}
+use Rattle.atomic_table.specs.Table.{Me, Allows, keeps, step}
+use Rattle.registry_machine.specs.declared.entry.Entry.{Entry}
+use Rattle.registry_machine.specs.declared.entry.Entry.TheVariants.{Acquire, NotYet}
+use Rattle.registry_machine.specs.Entries.{caller_of, has_place}
+use Rattle.registry_machine.specs.Callers.{mine}
+use Rattle.registry_machine.specs.Machine.{State, is_some_of}
+use Rattle.registry_machine.specs.Legal.{IsAllowed, Legal, state_of}
+use Rattle.searcher_table.specs.declared.board.Cell.{Cell}
+use Rattle.searcher_table.specs.declared.board.Plan.{Plan}
+use Rattle.searcher_table.specs.declared.board.Known.{Known}
+use Rattle.searcher_table.specs.Words.{word_count, current_word, slot_word, limits}
+use Rattle.searcher_table.specs.Counts.{is_acquire, is_not_yet, releases, pinned, NamesCaller}
+use Rattle.searcher_table.specs.Rule.{CountsTooEarly, IsPacked, Two, Kept}
+use Rattle.searcher_table.specs.Steps.{looked, acquire_of, TellsCurrent, Acquired}
+use Rattle.searcher_table.proofs.Frame.{covers}
+use Rattle.searcher_table.proofs.Execute.{grows_legal}
+use Rattle.searcher_table.proofs.Counts.{counts_last, pins_own, own_count, few_tries}
+use Rattle.searcher_table.proofs.Beside.{own_last, not_counted, all_snoc}
+use Rattle.searcher_table.proofs.Quiet.{state_next}
+use Rattle.searcher_table.proofs.Current.{generation_of, count_of, small, tells}
+use Rattle.searcher_table.proofs.OwnStep.{pinned_still, acquires_still, own_step}
+
+-- what an entry that names this caller counts for another
+abbrev is_one : ℕ → Option ℕ → Bool → ℕ
+is_one d who b = cond (is_some_of d who) (cond {A = ℕ} b 1 0) 0
+
+most_one : (a b : Bool) → cond {A = ℕ} a (cond {A = ℕ} b 1 0) 0 ≤ 1
+most_one true true = omega arith
+most_one true false = omega arith
+most_one false b = omega arith
+
+module _ {W U X L : Type 0} (p : Plan W) (log : List (Entry U X L)) (words : List ℕ) (c x : ℕ) (long : length words ≡ word_count) (legal : Legal (limits p) log) (two : Two p log words)
+    (low : 1 ≤ c) (few : c ≤ 64) (left : count_by is_acquire (mine c log) < p.budget) where
+  -- no caller acquires more often than it may
+  within : (e : Entry U X L) → caller_of e ≡ Some c → (d : ℕ) → count_by is_acquire (mine d (log ++ e ∷ [])) ≤ p.budget
+  within e named d =
+      let a = own_last d is_acquire log e in
+      let w = two.within d in
+      dite (ℕ_discrete d c)
+      (λ same.
+      let b = ap (λ n. count_by is_acquire (mine n log)) same in
+      let most : own_count d is_acquire e ≤ 1 = most_one (is_some_of d (caller_of e)) (is_acquire e) in
+      omega arith)
+      (λ other.
+      let none : own_count d is_acquire e ≡ 0 = ap (λ o. is_one d o (is_acquire e)) named ∙ ap (λ b. cond b (cond {A = ℕ} (is_acquire e) 1 0) 0) (ne_eqb c d (λ z. other (sym z))) in
+      omega arith)
+
+  -- what the words say after an acquire while nothing is current
+  two_early : CountsTooEarly (limits p) log (slice_index words current_word) → x ≡ slice_index words current_word + 1 → Two p (log ++ NotYet c ∷ []) (set words current_word x)
+  two_early k is = let l = limits p in let e : Entry U X L = NotYet c in let next = state_next l log e in record {
+    sizes = two.sizes;
+    current = inl record {
+      none = ap (λ (s : State). s.current) next ∙ k.none;
+      counted = get_or-set_same words current_word x 0 (omega arith) ∙ (let a = k.counted in let b = counts_last is_not_yet log e in omega arith);
+    };
+    opened = λ slot g o. get_or-set_other words current_word (slot_word slot) x 0 (λ z. absurd (omega arith)) ∙ two.opened slot g (sym (ap (λ (s : State). s.slots slot) next) ∙ o) ∙ sym (not_counted (releases g) log e refl);
+    free = λ slot b o. get_or-set_other words current_word (slot_word slot) x 0 (λ z. absurd (omega arith)) ∙ two.free slot b (sym (ap (λ (s : State). s.slots slot) next) ∙ o);
+    named = all_snoc NamesCaller log e two.named (low, few);
+    within = within e refl;
+  }
+
+  -- and after one of the current generation
+  two_acquired : (k : IsPacked (limits p) log (slice_index words current_word)) → x ≡ slice_index words current_word + 1
+      → Two p (log ++ Acquire c k.generation ((state_of (limits p) log).acquired k.generation) ∷ []) (set words current_word x)
+  two_acquired k is = let l = limits p in let n : ℕ = (state_of l log).acquired k.generation in let e : Entry U X L = Acquire c k.generation n in let next = state_next l log e in record {
+    sizes = two.sizes;
+    current = inr record {
+      generation = k.generation;
+      slot = k.slot;
+      current = ap (λ (s : State). s.current) next ∙ k.current;
+      opened = ap (λ (s : State). s.slots k.slot) next ∙ k.opened;
+      word_is =
+          let more : (state_of l (log ++ e ∷ [])).acquired k.generation ≡ n + 1 =
+          ap (λ (s : State). s.acquired k.generation) next ∙ ap (λ b. cond {A = ℕ} b (n + 1) n) (eq-eqb k.generation k.generation refl) in
+          let w = k.word_is in
+          let same = get_or-set_same words current_word x 0 (omega arith) in
+          omega arith;
+    };
+    opened = λ slot g o. get_or-set_other words current_word (slot_word slot) x 0 (λ z. absurd (omega arith)) ∙ two.opened slot g (sym (ap (λ (s : State). s.slots slot) next) ∙ o) ∙ sym (not_counted (releases g) log e refl);
+    free = λ slot b o. get_or-set_other words current_word (slot_word slot) x 0 (λ z. absurd (omega arith)) ∙ two.free slot b (sym (ap (λ (s : State). s.slots slot) next) ∙ o);
+    named = all_snoc NamesCaller log e two.named (low, few);
+    within = within e refl;
+  }
+
+  -- the entry of an acquire, its cause, and what the words say afterwards
+  record IsAcquire : Type 0 where
+    pub may : IsAllowed (limits p) (state_of (limits p) log) (acquire_of {U = U} {X = X} {L = L} c (slice_index words current_word))
+    pub later : Two p (log ++ acquire_of c (slice_index words current_word) ∷ []) (set words current_word x)
+
+  acquire_is : (state_of (limits p) log).pins c ≡ None → x ≡ slice_index words current_word + 1 → IsAcquire
+  acquire_is free is =
+      let n : ℕ = slice_index words current_word in
+      let l = limits p in
+      let g : ℕ = n / 549755813888 in
+      let pick : Bool → Entry U X L = λ b. cond b (NotYet c) (Acquire c g (n % 4294967296)) in
+      ⊎_elim
+      (λ (k : CountsTooEarly l log n).
+      let a = few_tries p.budget log two.named two.within in
+      let s = two.sizes.budget in
+      let b = k.counted in
+      let e : acquire_of {U = U} {X = X} {L = L} c n ≡ NotYet c = ap pick (eq-eqb g 0 (omega arith)) in
+      record {
+        may = subst (λ y. IsAllowed l (state_of l log) y) (sym e) record { free = free; none = k.none };
+        later = subst (λ (y : Entry U X L). Two p (log ++ y ∷ []) (set words current_word x)) (sym e) (two_early k is);
+      })
+      (λ (k : IsPacked l log n).
+      let i = small p log words legal two k in
+      let t : ℕ = (state_of l log).acquired k.generation in
+      let most : t < 4294967296 = (let a = i.count in let b = two.sizes.budget in omega arith) in
+      let slot : k.slot < 128 = (let a = i.slot in omega arith) in
+      let first : g ≡ k.generation = ap (λ w. w / 549755813888) k.word_is ∙ generation_of k.generation k.slot t slot most in
+      let second : n % 4294967296 ≡ t = ap (λ w. w % 4294967296) k.word_is ∙ count_of k.generation k.slot t slot most in
+      let e : acquire_of {U = U} {X = X} {L = L} c n ≡ Acquire c k.generation t =
+      ap pick (ne_eqb g 0 (λ z. let a = i.least in absurd (omega arith))) ∙ (λ j. Acquire c (first j) (second j)) in
+      record {
+        may = subst (λ y. IsAllowed l (state_of l log) y) (sym e) record { free = free; current = k.current; counted = refl };
+        later = subst (λ (y : Entry U X L). Two p (log ++ y ∷ []) (set words current_word x)) (sym e) (two_acquired k is);
+      })
+      two.current
+
+  -- the word has room for one more
+  fits : (slice_index words current_word + 1) % 2 ^ 64 ≡ slice_index words current_word + 1
+  fits = ⊎_elim
+      (λ (k : CountsTooEarly (limits p) log (slice_index words current_word)).
+      let a = few_tries p.budget log two.named two.within in
+      let s = two.sizes.budget in
+      let b = k.counted in
+      omega arith)
+      (λ (k : IsPacked (limits p) log (slice_index words current_word)).
+      let i = small p log words legal two k in
+      let b = two.sizes.budget in
+      let w = k.word_is in
+      let slot = i.slot in
+      let most = i.most in
+      let count = i.count in
+      omega arith)
+      two.current
+
+-- what names a caller, and has no place
+acquire_names : (U X L : Type 0) (c n : ℕ) → (caller_of (acquire_of {U = U} {X = X} {L = L} c n) ≡ Some c) × (has_place (acquire_of {U = U} {X = X} {L = L} c n) ≡ false)
+acquire_names U X L c n = by_test (n / 549755813888 == 0)
+  where
+    by_test : (b : Bool) → (caller_of (cond {A = Entry U X L} b (NotYet c) (Acquire c (n / 549755813888) (n % 4294967296))) ≡ Some c) × (has_place (cond {A = Entry U X L} b (NotYet c) (Acquire c (n / 549755813888) (n % 4294967296))) ≡ false)
+    by_test true = (refl, refl)
+    by_test false = (refl, refl)
+
+module _ {D W U X L : Type 0} (p : Plan W) where
+  pub acquires_current : (slots id : ℕ) (me : Me (Cell D U) (Known W U X L)) → 1 ≤ me.0.caller → me.0.caller ≤ 64 → me.0.back ≡ [] → me.0.plan ≡ Some p
+      → pinned me.0.caller me.0.mine ≡ None → count_by is_acquire me.0.mine < p.budget
+      → Allows (Kept p) slots id me current_word (λ n. (n + 1) % 2 ^ 64) (Acquired (step slots current_word 1 0 maybe.none) me)
+  acquires_current slots id me low few bare told free left s kept deep at bound =
+      let w = kept.world in
+      let k = me.0 in
+      let c : ℕ = k.caller in
+      let all = kept.one.fits id k at in
+      let calls = (all.pass low).calls in
+      let n : ℕ = slice_index s.words current_word in
+      let x : ℕ = (n + 1) % 2 ^ 64 in
+      let e : Entry U X L = acquire_of c n in
+      let log : List (Entry U X L) = w.log ++ e ∷ [] in
+      let unpinned : (state_of (limits p) w.log).pins c ≡ None = pins_own (limits p) c w.log ∙ pinned_still c k.mine (mine c w.log) k.announced (w.pending c) calls ∙ free in
+      let some : count_by is_acquire (mine c w.log) < p.budget = (let a = acquires_still c k.mine (mine c w.log) k.announced (w.pending c) calls in omega arith) in
+      let a = acquire_is p w.log s.words c x kept.words kept.legal kept.two low few some unpinned (fits p w.log s.words c x kept.words kept.legal kept.two low few some) in
+      let names = acquire_names U X L c n in (
+        record (looked k log w.pending) { hand = None },
+        keeps,
+        tt,
+        own_step p s kept id current_word x me e at low bare (omega arith) names.0 names.1 a.may a.later,
+        record {
+          made = record {
+            entered = record {
+              log = w.log;
+              pending = w.pending;
+              covers = covers p w id k all kept.legal;
+              legal = λ q is. subst (λ (r : Plan W). Legal (limits r) log) (sym (all.plan q is)) (grows_legal (limits p) w.log e kept.legal a.may);
+              after = refl;
+            };
+            calls = λ _. calls;
+          };
+          tells = λ q is. subst (λ (r : Plan W). TellsCurrent (limits r) w.log n) (sym (all.plan q is)) (tells p w.log s.words kept.legal kept.two);
+        },
+      )

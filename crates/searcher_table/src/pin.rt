@@ -1,0 +1,162 @@
+ghost use Rattle.std.specs.Prelude.{◌≡◌, ◌≤◌, ◌<◌, [], Some, None, count_by};
+ghost use Rattle.std.specs.Arc.{arc_value};
+ghost use Rattle.registry_machine.specs.Callers.{mine};
+ghost use Rattle.registry_machine.specs.Legal.{state_of};
+ghost use Rattle.searcher_table.specs.Words.{limits};
+ghost use Rattle.searcher_table.specs.Counts.{is_acquire, pinned};
+
+use crate::board::{CURRENT, GENERATION, Place, SLOT, SLOTS, SharedTable};
+use crate::pass::Pass;
+use crate::plays::{Acquire, HandOut, Release};
+use crate::shown::Shown;
+use crate::tokens::Sighting;
+
+/// A caller's hold on the generation that was current when it acquired, for one thread at a time. The generation's slot
+/// stays its own until the pin is released; a pin that is dropped keeps it.
+#[derive(Drop)]
+pub struct Pin<D: Shown, U: Drop> {
+    pub(crate) caller: u32,
+    // How often the caller has acquired, and may.
+    pub(crate) made: u32,
+    pub(crate) budget: u32,
+    pub(crate) generation: u32,
+    pub(crate) ticket: u32,
+    // The slot of the generation.
+    pub(crate) slot: u32,
+    pub(crate) place: Place<D, U, D::Setting, D::Docs, D::Deed>,
+    pub(crate) table: SharedTable<D, U, D::Setting, D::Docs, D::Deed>,
+    ghost at_table: { place.table_id ≡ (arc_value table).shared.table_id },
+    ghost sized: { place.table_id.words ≡ 1168 },
+    ghost told: { place.me.0.plan ≡ Some (arc_value table).shared.key },
+    ghost numbered: { place.me.0.caller ≡ caller },
+    ghost ranged: { (1 ≤ caller) × (caller ≤ 64) },
+    ghost own: { place.me.0.mine ≡ mine caller place.me.0.seen },
+    ghost tried: { made ≡ count_by is_acquire place.me.0.mine },
+    ghost most: { budget ≡ (arc_value table).shared.key.budget },
+    ghost within: { made ≤ budget },
+    ghost holds: { pinned caller place.me.0.mine ≡ Some generation },
+    ghost opened: { (state_of (limits (arc_value table).shared.key) place.me.0.seen).slots slot ≡ Some generation },
+    ghost below: { slot < 70 },
+    ghost empty_handed: { place.me.0.hand ≡ None },
+    ghost none_back: { place.me.0.back ≡ [] },
+    ghost bare: { place.me.1 ≡ [] },
+}
+
+/// Why nothing was acquired.
+#[derive(Clone, Copy, Drop, Debug, PartialEq, Eq)]
+pub enum AcquireRefusal {
+    /// Nothing was current. This counts as an acquire of the pass.
+    NotYet,
+    /// The pass had acquired so often as it may, and made no step.
+    Spent { made: u32 },
+}
+
+impl<D: Shown, U: Drop> Pass<D, U> {
+    ghost use Rattle.std.specs.Prelude.{IfOk, IfErr};
+    ghost use Rattle.searcher_table.specs.Pins.{HasAcquired, IsNotAcquired};
+
+    /// Acquires what is current. It is one addition to the current word, takes no memory and doesn't wait.
+    ///
+    /// # Errors
+    /// The pass comes back with an [`AcquireRefusal`]: `Spent` exactly where it has acquired as often as it may, and then no step
+    /// is made; else `NotYet` exactly where nothing was current.
+    pub fn acquire(self) -> Result<Pin<D, U>, (Pass<D, U>, AcquireRefusal)>
+        ensures acquired { IfOk result (λ pin. HasAcquired self pin) }
+        ensures refused { IfErr result (λ r. IsNotAcquired self r.0 r.1) }
+    {
+        if self.made >= self.budget {
+            let made = self.made;
+            return Err((self, AcquireRefusal::Spent { made }));
+        }
+        let Pass {
+            caller,
+            made,
+            budget,
+            mut place,
+            table,
+        } = self;
+        let word = table.shared.fetch_add::<Acquire>(&mut place, CURRENT, 1);
+        let made = made + 1;
+        let generation = (word / GENERATION) as u32;
+        if generation == 0 {
+            let pass = Pass {
+                caller,
+                made,
+                budget,
+                place,
+                table,
+            };
+            return Err((pass, AcquireRefusal::NotYet));
+        }
+        Ok(Pin {
+            caller,
+            made,
+            budget,
+            generation,
+            ticket: (word % SLOT) as u32,
+            slot: (word / SLOT % 128) as u32,
+            place,
+            table,
+        })
+    }
+}
+
+impl<D: Shown, U: Drop> Pin<D, U> {
+    ghost use Rattle.std.specs.Prelude.{◌≡◌, ◌+◌, ◌*◌, ◌<◌};
+    ghost use Rattle.searcher_table.specs.Pins.{HasReleased, IsSamePin, IsSightingOf};
+
+    /// The caller's number, from 1 on.
+    pub fn caller(&self) -> u32
+        ensures { result ≡ self.now.caller }
+    {
+        self.caller
+    }
+
+    /// The generation that was acquired.
+    pub fn generation(&self) -> u32
+        ensures { result ≡ self.now.generation }
+    {
+        self.generation
+    }
+
+    /// How many acquires of the generation came before.
+    pub fn ticket(&self) -> u32
+        ensures { result ≡ self.now.ticket }
+    {
+        self.ticket
+    }
+
+    /// What this pin's pass has seen, for another one to meet. It takes no memory and doesn't wait.
+    pub fn note(&mut self) -> Sighting<D, U>
+        ensures pin { IsSamePin self.old self.new }
+        ensures note { IsSightingOf self.new result }
+    {
+        let place = self.table.shared.split_seat::<HandOut>(&mut self.place);
+        Sighting { place }
+    }
+
+    /// Lets the generation go. It is one addition to the slot's word, takes no memory and doesn't wait.
+    pub fn release(self) -> Pass<D, U>
+        ensures { HasReleased self result }
+    {
+        let Pin {
+            caller,
+            made,
+            budget,
+            generation: _,
+            ticket: _,
+            slot,
+            mut place,
+            table,
+        } = self;
+        let word = SLOTS + 8 * slot as usize;
+        table.shared.fetch_add::<Release>(&mut place, word, 1);
+        Pass {
+            caller,
+            made,
+            budget,
+            place,
+            table,
+        }
+    }
+}
