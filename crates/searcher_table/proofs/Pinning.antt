@@ -50,6 +50,7 @@ module _ {D U W X L : Type 0} where
           legal = subst (λ (l : List (Entry U X L)). Legal (limits p) l) (sym n.seen) (m.entered.legal p told);
           last = n.seen;
           calls = subst (λ (a : Option (Asked U)). GoesOn c k.mine k.announced (mine c log) a) (ap pending (sym numbered) ∙ sym n.announced) calls;
+          grown = own;
           own = n.mine ∙ (λ i. mine (numbered i) (sym n.seen i));
           steps = n.steps;
         };

@@ -1,9 +1,9 @@
 -- The row of passes, one by one.
-use Rattle.std.proofs.Common.{◌≡◌, ◌⊎◌, ℕ, zero, suc, ◌+◌, List, [], ◌∷◌, ◌++◌, length, length-append, arith, refl, sym, ap, ◌∙◌, inl, inr, ⊎_elim, subst, Some, None}
+use Rattle.std.proofs.Common.{◌≡◌, ◌⊎◌, ℕ, zero, suc, ◌+◌, List, [], ◌∷◌, ◌++◌, length, refl, sym, ap, ◌∙◌, inl, inr, ⊎_elim, subst, Some, None}
 use Rattle.std.specs.Prelude.{slice_get}
 use Rattle.searcher_table.specs.declared.pass.Pass.{Pass}
 use Rattle.searcher_table.specs.declared.registrar.Registrar.{Registrar}
-use Rattle.searcher_table.specs.Making.{IsNewPass, AreDealt, ArePassesOf, HasDealt}
+use Rattle.searcher_table.specs.Making.{IsNewPass, ArePassesOf, HasDealt}
 
 got_last : {A : Type 0} (xs : List A) (a x : A) (i : ℕ) → slice_get (xs ++ a ∷ []) i ≡ Some x → (slice_get xs i ≡ Some x) ⊎ ((i ≡ length xs) × (a ≡ x))
 got_last [] a x zero e = inr (refl, (let p : Some a ≡ Some x = e in cc))
@@ -45,13 +45,3 @@ module _ {D U W X L : Type 0} where
         (got_last passes t x i e);
     opening = d.seen ∙ all.opening;
   }
-
-  -- the last two of two passes
-  pub pair : (r : Registrar D U W X L) (all xs ys : List (Pass D U W X L)) (two one : Pass D U W X L) → all ≡ xs ++ two ∷ [] → xs ≡ ys ++ one ∷ [] → AreDealt r all → length all ≡ 2 → IsNewPass r 1 one × IsNewPass r 2 two
-  pair r all xs ys two one is is' dealt len =
-      let long : length xs ≡ 1 = (let a = ap length is in let b = length-append xs (two ∷ []) in omega arith) in
-      let none : length ys ≡ 0 = (let a = ap length is' in let b = length-append ys (one ∷ []) in omega arith) in
-      let whole : AreDealt r (xs ++ two ∷ []) = subst (λ (l : List (Pass D U W X L)). AreDealt r l) is dealt in (
-        subst (λ (n : ℕ). IsNewPass r (n + 1) one) none (whole (length ys) one (got_before xs (two ∷ []) (length ys) one (ap (λ l. slice_get l (length ys)) is' ∙ got_here ys one))),
-        subst (λ (n : ℕ). IsNewPass r (n + 1) two) long (whole (length xs) two (got_here xs two)),
-      )

@@ -27,6 +27,7 @@ pub record HasEntered {W U X L : Type 0} (p : Plan W) (c : ℕ) (k n : Known W U
   pub legal : Legal (limits p) n.seen
   pub last : n.seen ≡ before ++ e ∷ []
   pub calls : GoesOn c k.mine k.announced (mine c before) n.announced
+  pub grown : n.mine ≡ mine c before ++ e ∷ []
   pub own : n.mine ≡ mine c n.seen
   pub steps : n.steps ≡ k.steps + 1
 

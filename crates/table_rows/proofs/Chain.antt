@@ -1,5 +1,5 @@
 -- A caller that announces a call, has it executed and meets what has seen it has just this entry more.
-use Rattle.std.proofs.Common.{true, ◌≡◌, ℕ, List, [], ◌∷◌, ◌++◌, length, length-append, append-nil, append_assoc, count_by, refl, sym, ap, ◌∙◌, ⊎_elim, arith, Some, None}
+use Rattle.std.proofs.Common.{true, ◌≡◌, ℕ, ◌+◌, List, [], ◌∷◌, ◌++◌, length, length-append, append-nil, append_assoc, count_by, refl, sym, ap, ◌∙◌, subst, ⊎_elim, arith, Some, None}
 use Rattle.std.proofs.lemmas.List.{append_cancel_left}
 use Rattle.registry_machine.specs.declared.entry.Entry.{Entry}
 use Rattle.registry_machine.specs.declared.entry.Entry.TheVariants.{Open, TooMany, GenerationsSpent, Update}
@@ -18,8 +18,11 @@ use Rattle.searcher_table.specs.Warming.{listed}
 use Rattle.searcher_table.specs.Openings.{HasOpened, IsRefused}
 use Rattle.searcher_table.specs.Views.{IsStill, WasExecuted}
 use Rattle.searcher_table.specs.Passes.{seen_of, mine_of, announced_of, sighted, HasSeenMore, HasLooked, HasAnnounced, HasMet, IsAnnouncedBy}
+use Rattle.searcher_table.specs.Making.{IsNewPass, AreDealt}
 use Rattle.searcher_table.specs.Registrars.{seen_of as seen_by, IsUnchanged, IsSightingOf, HasEntry, HasUpdated}
 use Rattle.table_rows.specs.TableTrials.{HasOneMore, HasOneOpeningMore, HasOneCallMore}
+use Rattle.std.specs.Prelude.{slice_get}
+use Rattle.searcher_table.proofs.Row.{got_here, got_before}
 use Rattle.searcher_table.proofs.Frame.{own_joined}
 use Rattle.searcher_table.proofs.Passing.{nothing_more}
 use Rattle.searcher_table.proofs.Places.{same_places, one_place_more}
@@ -47,6 +50,16 @@ module _ {D U W X L : Type 0} where
       (λ (x : IsStill s.caller (mine_of s) (announced_of s) (mine_of t) (announced_of t)). x.announced ∙ none)
       (λ (x : WasExecuted s.caller (mine_of s) (announced_of s) (mine_of t) (announced_of t)). x.none)
       l.calls
+
+  -- the last two of two passes
+  pub pair : (r : Registrar D U W X L) (all xs ys : List (Pass D U W X L)) (two one : Pass D U W X L) → all ≡ xs ++ two ∷ [] → xs ≡ ys ++ one ∷ [] → AreDealt r all → length all ≡ 2 → IsNewPass r 1 one × IsNewPass r 2 two
+  pair r all xs ys two one is is' dealt len =
+      let long : length xs ≡ 1 = (let a = ap length is in let b = length-append xs (two ∷ []) in omega arith) in
+      let none : length ys ≡ 0 = (let a = ap length is' in let b = length-append ys (one ∷ []) in omega arith) in
+      let whole : AreDealt r (xs ++ two ∷ []) = subst (λ (l : List (Pass D U W X L)). AreDealt r l) is dealt in (
+        subst (λ (n : ℕ). IsNewPass r (n + 1) one) none (whole (length ys) one (got_before xs (two ∷ []) (length ys) one (ap (λ l. slice_get l (length ys)) is' ∙ got_here ys one))),
+        subst (λ (n : ℕ). IsNewPass r (n + 1) two) long (whole (length xs) two (got_here xs two)),
+      )
 
 module _ {D U W X L : Type 0} {shows : Ghosts D W X L} where
   pub grown : (s t : Pass D U W X L) (a : Announced D U W X L shows) (r q : Registrar D U W X L) (note : Sighting D U W X L shows) (e : Entry U X L) → caller_of e ≡ Some a.caller

@@ -1,7 +1,7 @@
 -- What the tests say of passes at one table.
 use Rattle.std.specs.Prelude.{◌≡◌, ℕ, ◌+◌, ◌≤◌, List, [], ◌∷◌, ◌++◌, length, None}
 use Rattle.std.specs.List.{AllByRecursion}
-use Rattle.registry_machine.specs.declared.entry.Entry.TheVariants.{Open, Update}
+use Rattle.registry_machine.specs.declared.entry.Entry.TheVariants.{Open, Update, Acquire, Release}
 use Rattle.searcher_table.specs.declared.pass.Pass.{Pass}
 use Rattle.searcher_table.specs.declared.registrar.Registrar.{Registrar}
 use Rattle.searcher_table.specs.Passes.{mine_of, announced_of, IsSamePass}
@@ -42,6 +42,10 @@ module _ {D U W X L : Type 0} where
   pub record HasNothingOut (s t : Pass D U W X L) : Type 0 where
     pub pass : IsSamePass s t
     pub none : announced_of t ≡ None
+
+  -- the pass has two entries more: it acquired this generation with this ticket, and released it
+  abbrev pub HasHeld : Pass D U W X L → Pass D U W X L → ℕ → ℕ → Type 0
+  HasHeld s t g k = mine_of t ≡ (mine_of s ++ Acquire s.caller g k ∷ []) ++ Release s.caller g [] ∷ []
 
   -- a table of two callers, whose doors are made with this
   pub record IsForTwo (about : W) (r : Registrar D U W X L) : Type 0 where

@@ -1,11 +1,12 @@
-ghost use Rattle.std.specs.Prelude.{◌≡◌, ◌+◌, ◌≤◌, [], None, length, IfOk, IfSome};
+ghost use Rattle.std.specs.Prelude.{◌≡◌, ◌+◌, ◌≤◌, [], None, length, IfOk, IfErr, IfSome};
 ghost use Rattle.searcher_table.specs.Passes.{mine_of, announced_of};
+ghost use Rattle.searcher_table.specs.Pins.{IsNotAcquired};
 ghost use Rattle.searcher_table.specs.Making.{AreDealt};
 ghost use Rattle.searcher_table.specs.Registrars.{places_of, IsSameRegistrar};
 ghost use Rattle.table_rows.specs.TableTrials.{ArePair, IsReady, HasRoom, HasOneMore, HasNothingOut};
-ghost use Rattle.table_rows.specs.TableTrials.{IsForTwo, HasOneCallMore, HasOneOpeningMore, AreTwo};
+ghost use Rattle.table_rows.specs.TableTrials.{HasHeld, IsForTwo, HasOneCallMore, HasOneOpeningMore, AreTwo};
 
-use searcher_table::{Call, OpenRefusal, Pass, Registrar, Shown, make};
+use searcher_table::{AcquireRefusal, Call, OpenRefusal, Pass, Registrar, Shown, make};
 use std::alloc::Global;
 use std::test::Fail;
 use std::thread::{Threads, join};
@@ -61,6 +62,23 @@ fn change_of_mind(pass: &mut Pass<Door, u32>, content: u32) -> u32
     pass.withdraw(call)
 }
 
+// Acquires what is current, if anything is, and releases it: the generation and the ticket. The caller has just these two
+// entries more.
+fn hold(pass: Pass<Door, u32>) -> (Pass<Door, u32>, Result<(u32, u32), AcquireRefusal>)
+    requires { announced_of pass ≡ None }
+    ensures pass { HasNothingOut pass result.0 }
+    ensures held { IfOk result.1 (λ got. HasHeld pass result.0 got.0 got.1) }
+    ensures refused { IfErr result.1 (λ why. IsNotAcquired pass result.0 why) }
+{
+    match pass.acquire() {
+        Ok(pin) => {
+            let got = (pin.generation(), pin.ticket());
+            (pin.release(), Ok(got))
+        }
+        Err((pass, why)) => (pass, Err(why)),
+    }
+}
+
 // The passes of two callers.
 fn pair_of(
     registrar: &Registrar<Door, u32>,
@@ -94,22 +112,25 @@ fn updates(pass: &mut Pass<Door, u32>, registrar: &mut Registrar<Door, u32>, fir
     right
 }
 
-// Looks and changes of mind of another caller.
-fn looks(pass: &mut Pass<Door, u32>)
-    requires { announced_of pass.old ≡ None }
-    ensures { HasNothingOut pass.old pass.new }
+// Looks, changes of mind and acquires of another caller.
+fn looks(mut pass: Pass<Door, u32>) -> Pass<Door, u32>
+    requires { announced_of pass ≡ None }
+    ensures { HasNothingOut pass result }
 {
     for content in 0..ROUNDS {
         pass.look();
-        change_of_mind(pass, content);
+        change_of_mind(&mut pass, content);
+        let (again, _held) = hold(pass);
+        pass = again;
     }
+    pass
 }
 
 // Both callers at once, each in a thread of its own.
 fn at_once<R: Threads + Sync>(
     rt: &R,
     mut one: Pass<Door, u32>,
-    mut two: Pass<Door, u32>,
+    two: Pass<Door, u32>,
     mut registrar: Registrar<Door, u32>,
 ) -> (u32, Pass<Door, u32>, Registrar<Door, u32>)
     requires one { IsReady registrar one × HasRoom registrar 10001 }
@@ -130,17 +151,14 @@ fn at_once<R: Threads + Sync>(
         || -> Pass<Door, u32>
             requires { announced_of two ≡ None }
             ensures { HasNothingOut two result }
-        {
-            looks(&mut two);
-            two
-        },
+        { looks(two) },
     );
     (right, two, registrar)
 }
 
 // One update of each caller, a change of mind between them, and then both at once: what was answered.
 fn all_of<R: Threads + Sync>(rt: &R, alloc: Global) -> Option<([u64; 2], u32, u32, u64)> {
-    let Ok((passes, mut registrar)) = make::<Door, u32>(alloc, &0, 2, 1, 1, 1) else {
+    let Ok((passes, mut registrar)) = make::<Door, u32>(alloc, &0, 2, 1, 1, ROUNDS - 1) else {
         return None;
     };
     let (mut one, mut two) = pair_of(&registrar, passes)?;
@@ -159,6 +177,29 @@ fn calls_have_places_in_one_history(rt: HostRuntime) -> Result<(), Fail> {
     let (places, back, right, last) = all_of(&rt, rt.alloc()).expect(&rt, "there is memory");
     assert_eq!(rt; (places, back), ([0, 1], 8));
     assert_eq!(rt; (right, last), (ROUNDS - 1, 10_002));
+    Ok(())
+}
+
+type Held = Result<(u32, u32), AcquireRefusal>;
+
+// What three acquires of a caller that may make two are answered while nothing is current.
+fn three_holds(alloc: Global) -> Option<([Held; 3], Option<(u32, u32)>)> {
+    let Ok((mut passes, mut registrar)) = make::<Door, u32>(alloc, &0, 1, 1, 1, 2) else {
+        return None;
+    };
+    let pass = passes.pop()?;
+    let (pass, first) = hold(pass);
+    let (pass, second) = hold(pass);
+    let (_pass, third) = hold(pass);
+    Some(([first, second, third], registrar.current()))
+}
+
+#[test]
+fn acquires_come_too_early_or_are_spent(rt: HostRuntime) -> Result<(), Fail> {
+    let (held, current) = three_holds(rt.alloc()).expect(&rt, "there is memory");
+    let early = Err(AcquireRefusal::NotYet);
+    let spent = Err(AcquireRefusal::Spent { made: 2 });
+    assert!(rt; held == [early, early, spent] && current.is_none());
     Ok(())
 }
 

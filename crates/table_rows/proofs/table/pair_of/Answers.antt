@@ -1,4 +1,4 @@
-use Rattle.searcher_table.proofs.Row.{pair}
+use Rattle.table_rows.proofs.Chain.{pair}
 use Rattle.table_rows.proofs.table.pair_of.Goals as goal
 
 pub returns : goal.returns
