@@ -1,5 +1,5 @@
 -- Which generations are warming, and which slots are open for none.
-use Rattle.std.specs.Prelude.{◌≡◌, ℕ, ◌≤◌, List, length, None}
+use Rattle.std.specs.Prelude.{◌≡◌, ℕ, ◌≤◌, List, length, Some, None}
 use Rattle.registry_machine.specs.declared.entry.Entry.{Entry}
 use Rattle.registry_machine.specs.Legal.{state_of}
 use Rattle.searcher_table.specs.declared.board.Plan.{Plan}
@@ -18,6 +18,10 @@ module _ {W U X L : Type 0} (p : Plan W) (seen : List (Entry U X L)) where
   -- those that are warming, in the order of their openings
   abbrev pub warming_in : List ℕ
   warming_in = (state_of (limits p) seen).warming
+
+  -- the slot is open for the generation
+  abbrev pub IsOpenFor : ℕ → ℕ → Type 0
+  IsOpenFor slot g = (state_of (limits p) seen).slots slot ≡ Some g
 
   -- the slots behind those of the warming generations are open for none
   abbrev pub AreUnused : Type 0

@@ -15,8 +15,8 @@ use std::sync::Arc;
 /// The word that says what is current.
 pub(crate) const CURRENT: usize = 8;
 
-/// In the current word, the unit of the generation, which has its highest 25 bits, and that of the slot, which has the 7 bits
-/// below. The lowest 32 bits count the acquires of the generation.
+/// In the current word, the unit of the generation, which has its highest 25 bits, and that of the slot, which has the 7
+/// bits below. The lowest 32 bits count the acquires of the generation.
 pub(crate) const GENERATION: u64 = 549_755_813_888;
 
 pub(crate) const SLOT: u64 = 4_294_967_296;

@@ -1,9 +1,8 @@
 ghost use Rattle.std.specs.Prelude.{◌≡◌, ◌≤◌, ◌<◌, [], Some, None, count_by};
 ghost use Rattle.std.specs.Arc.{arc_value};
 ghost use Rattle.registry_machine.specs.Callers.{mine};
-ghost use Rattle.registry_machine.specs.Legal.{state_of};
-ghost use Rattle.searcher_table.specs.Words.{limits};
 ghost use Rattle.searcher_table.specs.Counts.{is_acquire, pinned};
+ghost use Rattle.searcher_table.specs.Warming.{IsOpenFor};
 
 use crate::board::{CURRENT, GENERATION, Place, SLOT, SLOTS, SharedTable};
 use crate::pass::Pass;
@@ -35,7 +34,7 @@ pub struct Pin<D: Shown, U: Drop> {
     ghost most: { budget ≡ (arc_value table).shared.key.budget },
     ghost within: { made ≤ budget },
     ghost holds: { pinned caller place.me.0.mine ≡ Some generation },
-    ghost opened: { (state_of (limits (arc_value table).shared.key) place.me.0.seen).slots slot ≡ Some generation },
+    ghost opened: { IsOpenFor (arc_value table).shared.key place.me.0.seen slot generation },
     ghost below: { slot < 70 },
     ghost empty_handed: { place.me.0.hand ≡ None },
     ghost none_back: { place.me.0.back ≡ [] },
@@ -58,8 +57,8 @@ impl<D: Shown, U: Drop> Pass<D, U> {
     /// Acquires what is current. It is one addition to the current word, takes no memory and doesn't wait.
     ///
     /// # Errors
-    /// The pass comes back with an [`AcquireRefusal`]: `Spent` exactly where it has acquired as often as it may, and then no step
-    /// is made; else `NotYet` exactly where nothing was current.
+    /// The pass comes back with an [`AcquireRefusal`]: `Spent` exactly where it has acquired as often as it may, and then no
+    /// step is made; else `NotYet` exactly where nothing was current.
     pub fn acquire(self) -> Result<Pin<D, U>, (Pass<D, U>, AcquireRefusal)>
         ensures acquired { IfOk result (λ pin. HasAcquired self pin) }
         ensures refused { IfErr result (λ r. IsNotAcquired self r.0 r.1) }

@@ -185,8 +185,8 @@ impl<D: Shown, U: Drop> Registrar<D, U> {
         shared.load::<Look>(&mut self.place, REGISTRAR);
     }
 
-    /// The generation that is current, with the number of its acquires so far; none where nothing is. It is one load, takes
-    /// no memory and doesn't wait.
+    /// The generation that is current, with the number of its acquires so far; none where nothing is. It is one load,
+    /// takes no memory and doesn't wait.
     pub fn current(&mut self) -> Option<(u32, u32)>
         ensures registrar { HasLooked self.old self.new }
         ensures current { result ≡ current_of self.new }
