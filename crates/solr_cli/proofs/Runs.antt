@@ -9,7 +9,7 @@ use Rattle.client_runner.specs.Outputs.{output_view}
 use Rattle.solr_cli.specs.declared.status.Status.{Status}
 use Rattle.solr_cli.specs.declared.status.Status.TheVariants as status
 use Rattle.solr_cli.specs.Answering.{IsAnswer, IsRefusal, ReadsTo}
-use Rattle.solr_cli.specs.InputRuns.{IsReadRefusal, IsRunFrom}
+use Rattle.solr_cli.specs.InputRuns.{IsCountOf, IsCountsLine, IsReadRefusal, IsRunFrom, TellsCounts, TellsCountsFrom}
 use Rattle.solr_cli.proofs.Inputs.{beyond_input, within_input}
 
 -- the bytes that were taken are all of them
@@ -64,9 +64,27 @@ refusal_of xs ys bytes (status.BadLine line name) h end a = subst (λ t. IsRefus
 refusal_of xs ys bytes status.TooLarge h end a = too_large_whole xs ys bytes h end a
 refusal_of xs ys bytes status.NoMemory h end a = tt
 
-pub refused_over : (old new : Option (List ℕ)) (bytes : List ℕ) (r : Result (Output × Text) Status) → Consumes old new bytes → (length bytes ≤ most_input → IsAtEnd new)
-    → MatchResult r (λ p. IsAnswer bytes (output_view p.0) p.1) (IsRefusal bytes) → IfSome old (λ xs. IfErr r (IsReadRefusal xs))
-refused_over None new bytes r h end a = tt
-refused_over (Some xs) None bytes r h end a = absurd h
-refused_over (Some xs) (Some ys) bytes (Ok p) h end a = tt
-refused_over (Some xs) (Some ys) bytes (Err s) h end a = refusal_of xs ys bytes s h end a
+pub refused_over : {A : Type 0} (P : A → Type 0) (old new : Option (List ℕ)) (bytes : List ℕ) (r : Result A Status) → Consumes old new bytes → (length bytes ≤ most_input → IsAtEnd new)
+    → MatchResult r P (IsRefusal bytes) → IfSome old (λ xs. IfErr r (IsReadRefusal xs))
+refused_over P None new bytes r h end a = tt
+refused_over P (Some xs) None bytes r h end a = absurd h
+refused_over P (Some xs) (Some ys) bytes (Ok p) h end a = tt
+refused_over P (Some xs) (Some ys) bytes (Err s) h end a = refusal_of xs ys bytes s h end a
+
+-- ---- the counts of a script
+
+count_of : (xs ys bytes text : List ℕ) → Consumes (Some xs) (Some ys) bytes → (length bytes ≤ most_input → IsAtEnd (Some ys)) → TellsCounts bytes text → IsCountOf xs (Some ys) text
+count_of xs ys bytes text h end (config, script, reads, told) =
+    let all = is_all xs ys bytes h end reads.within in
+    (ap (λ t. Some t) (end (within_input bytes reads.within)), (config, script, subst (λ t. ReadsTo t config script) all reads, told))
+
+pub counted_over : (old new : Option (List ℕ)) (bytes : List ℕ) (r : Result Text Status) → Consumes old new bytes → (length bytes ≤ most_input → IsAtEnd new)
+    → MatchResult r (TellsCounts bytes) (IsRefusal bytes) → TellsCountsFrom old new r
+counted_over None new bytes r h end a = tt
+counted_over (Some xs) None bytes r h end a = absurd h
+counted_over (Some xs) (Some ys) bytes (Ok text) h end a = count_of xs ys bytes text h end a
+counted_over (Some xs) (Some ys) bytes (Err s) h end a = tt
+
+pub counts_line : (bytes : List ℕ) (r : Result Text Status) → MatchResult r (TellsCounts bytes) (IsRefusal bytes) → IfOk r IsCountsLine
+counts_line bytes (Ok text) (config, script, reads, told) = (script, told)
+counts_line bytes (Err s) a = tt

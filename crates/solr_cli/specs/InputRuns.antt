@@ -6,7 +6,8 @@ use Rattle.script_form.specs.declared.script.Line.{Line}
 use Rattle.client_runner.specs.declared.rows.Output.{Output}
 use Rattle.solr_cli.specs.declared.status.Status.{Status}
 use Rattle.solr_cli.specs.declared.status.Status.TheVariants as status
-use Rattle.solr_cli.specs.Answering.{IsRefusal}
+use Rattle.script_counts.specs.Counts.{check_text}
+use Rattle.solr_cli.specs.Answering.{IsRefusal, ReadsTo}
 use Rattle.solr_cli.specs.Top.{RunsTo, CountsReads}
 
 -- a read fault is told where the source's count rose, and all else where it is as before
@@ -34,3 +35,19 @@ pub record IsRunFrom (input : List ℕ) (left : Option (List ℕ)) (output : Out
 -- the same where the source tells its bytes and the input was run
 abbrev pub RanFrom : Option (List ℕ) → Option (List ℕ) → Result (Output × Text) Status → Type 0
 RanFrom before after result = IfSome before (λ input. IfOk result (λ r. IsRunFrom input after r.0))
+
+-- ---- the counts of a script
+
+abbrev pub IsCountsLine : List ℕ → Type 0
+IsCountsLine text = (script : List Line) × (text ≡ check_text script)
+
+-- the input reads, and this is the line of its script's counts
+abbrev pub TellsCounts : List ℕ → List ℕ → Type 0
+TellsCounts input text = (config : Config) × (script : List Line) × ReadsTo input config script × (text ≡ check_text script)
+
+-- the same, of an input that was read to its end
+abbrev pub IsCountOf : List ℕ → Option (List ℕ) → List ℕ → Type 0
+IsCountOf input left text = (left ≡ Some []) × TellsCounts input text
+
+abbrev pub TellsCountsFrom : Option (List ℕ) → Option (List ℕ) → Result Text Status → Type 0
+TellsCountsFrom before after result = IfSome before (λ input. IfOk result (IsCountOf input after))

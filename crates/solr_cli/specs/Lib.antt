@@ -1,4 +1,5 @@
 pub mod Statuses
+pub mod Commands
 pub mod Reading
 pub mod Writing
 pub mod Answering

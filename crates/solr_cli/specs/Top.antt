@@ -1,9 +1,8 @@
 -- What the top call promises.
-use Rattle.std.specs.Prelude.{◌≡◌, ◌⊎◌, ℕ, List, [], ◌∷◌, Bool, false, true, Option, Some, None, IfSome, IsSomeAnd, codes, ⊤}
+use Rattle.std.specs.Prelude.{◌≡◌, ◌⊎◌, ℕ, List, [], Bool, true, Option, Some, None, IfSome, IsSomeAnd, ⊤}
 use Rattle.std.specs.Io.KnownBytes.{Appends}
 use Rattle.rt_edge.specs.Faults.{Rose}
 use Rattle.rt_edge.specs.Flushes.{IsTold}
-use Rattle.field_schema.specs.Bytes.{bytes_eq}
 use Rattle.script_form.specs.declared.config.Config.{Config}
 use Rattle.script_form.specs.declared.script.Line.{Line}
 use Rattle.run_laws.specs.Lawful.{Lawful}
@@ -12,15 +11,14 @@ use Rattle.client_runner.specs.declared.rows.Output.{Output}
 use Rattle.client_runner.specs.Histories.{GoesByHistory}
 use Rattle.client_runner.specs.Outputs.{output_view}
 use Rattle.solr_cli.specs.declared.status.Status.{Status}
+use Rattle.solr_cli.specs.declared.top.Ran.{Ran}
 use Rattle.solr_cli.specs.declared.status.Status.TheVariants as status
+use Rattle.script_counts.specs.Counts.{check_text}
+use Rattle.script_maker.specs.Made.{made}
+use Rattle.solr_cli.specs.declared.command.Command.{Command}
+use Rattle.solr_cli.specs.declared.command.Command.TheVariants as command
 use Rattle.solr_cli.specs.Answering.{IsRefusal, ReadsTo}
 use Rattle.solr_cli.specs.Writing.{AppendsPart}
-
--- the words are exactly `run`
-abbrev pub is_run : List (List ℕ) → Bool
-is_run [] = false
-is_run (word ∷ []) = bytes_eq word (codes "run")
-is_run (word ∷ other ∷ words) = false
 
 -- a read fault comes where the source's count of faults rose, and any other status where it is as before
 abbrev pub CountsReads : Status → ℕ → ℕ → Type 0
@@ -38,11 +36,28 @@ WhereQuiet status.Done P = ⊤
 WhereQuiet status.WriteFault P = ⊤
 WhereQuiet _ P = P
 
--- all of the output's text was appended where the command is done, and a front of it where a write failed; else there is no output
-abbrev pub Writes : Status → Option Output → Option (List ℕ) → Option (List ℕ) → Type 0
-Writes status.Done output before now = IsSomeAnd output (λ o. Appends before now (output_text (output_view o)))
-Writes status.WriteFault output before now = IsSomeAnd output (λ o. AppendsPart before now (output_text (output_view o)))
-Writes _ output before now = output ≡ None
+-- all of a text was appended where the command is done, and a front of it where a write failed
+abbrev pub WritesText : Status → List ℕ → Option (List ℕ) → Option (List ℕ) → Type 0
+WritesText status.Done text before now = Appends before now text
+WritesText status.WriteFault text before now = AppendsPart before now text
+WritesText _ text before now = ⊤
+
+-- the text is that of the output, which is there exactly where a text is written
+abbrev pub WritesOutput : Status → Option Output → Option (List ℕ) → Option (List ℕ) → Type 0
+WritesOutput status.Done output before now = IsSomeAnd output (λ o. Appends before now (output_text (output_view o)))
+WritesOutput status.WriteFault output before now = IsSomeAnd output (λ o. AppendsPart before now (output_text (output_view o)))
+WritesOutput _ output before now = output ≡ None
+
+-- the text is the line of a script's counts
+abbrev pub WritesCounts : Status → Option (List ℕ) → Option (List ℕ) → Type 0
+WritesCounts s before now = (script : List Line) × WritesText s (check_text script) before now
+
+-- what the command writes: the output's text, the counts of a script, or the script of the generator; the last two have no output
+abbrev pub Writes : Option Command → Status → Option Output → Option (List ℕ) → Option (List ℕ) → Type 0
+Writes (Some command.Run) s output before now = WritesOutput s output before now
+Writes (Some command.Check) s output before now = (output ≡ None) × WritesCounts s before now
+Writes (Some (command.Make n)) s output before now = (output ≡ None) × WritesText s (made n) before now
+Writes None s output before now = output ≡ None
 
 -- the input reads to this configuration and this script, and the output is lawful for them, by one legal history of the registry
 pub record RunsTo (input : List ℕ) (config : Config) (script : List Line) (output : Output) : Type 0 where
@@ -67,6 +82,36 @@ Explains input left s output = IsRefusal input s
 abbrev pub IsExplained : Option (List ℕ) → Option (List ℕ) → Status → Option Output → Type 0
 IsExplained before after s output = IfSome before (λ input. Explains input after s output)
 
+-- the input was read to its end and reads to a script, and of the line of its counts so much was appended as the status says
+pub record IsCheckOf (input : List ℕ) (left : Option (List ℕ)) (s : Status) (before now : Option (List ℕ)) : Type 0 where
+  pub ended : left ≡ Some []
+  pub reads : (config : Config) × (script : List Line) × ReadsTo input config script × WritesText s (check_text script) before now
+
+-- why a check ended so, over the bytes of its input
+abbrev pub ExplainsCheck : List ℕ → Option (List ℕ) → Status → Option (List ℕ) → Option (List ℕ) → Type 0
+ExplainsCheck input left status.Done before now = IsCheckOf input left status.Done before now
+ExplainsCheck input left status.WriteFault before now = IsCheckOf input left status.WriteFault before now
+ExplainsCheck input left status.Usage before now = ⊥
+ExplainsCheck input left status.ReadFault before now = ⊤
+ExplainsCheck input left s before now = IsRefusal input s
+
+-- the same where the source tells its bytes
+abbrev pub IsCheckExplained : Option (List ℕ) → Option (List ℕ) → Status → Option (List ℕ) → Option (List ℕ) → Type 0
+IsCheckExplained left after s before now = IfSome left (λ input. ExplainsCheck input after s before now)
+
+-- a text was written, or its writing failed
+abbrev pub IsWritten : Status → Type 0
+IsWritten status.Done = ⊤
+IsWritten status.WriteFault = ⊤
+IsWritten _ = ⊥
+
+-- what a call that reads nothing can end with
+abbrev pub EndsWriting : Status → Type 0
+EndsWriting status.Done = ⊤
+EndsWriting status.WriteFault = ⊤
+EndsWriting status.NoMemory = ⊤
+EndsWriting _ = ⊥
+
 -- the sink told that all it holds was flushed, or tells nothing
 abbrev pub IsFlushed : Option Bool → Option Bool → Type 0
 IsFlushed before now = IsTold before now true
@@ -75,6 +120,19 @@ IsFlushed before now = IsTold before now true
 abbrev pub IsSteady : ℕ → ℕ → Type 0
 IsSteady before now = Rose before now → ⊥
 
--- an input that reads is run, unless memory was wanting
+-- all was written, unless memory was wanting
+abbrev pub IsDoneOrWanting : Status → Type 0
+IsDoneOrWanting s = (s ≡ status.Done) ⊎ (s ≡ status.NoMemory)
+
+-- an input that reads is served by its command, unless memory was wanting
 abbrev pub Completes : Status → List ℕ → Type 0
-Completes s input = (config : Config) (script : List Line) → ReadsTo input config script → (s ≡ status.Done) ⊎ (s ≡ status.NoMemory)
+Completes s input = (config : Config) (script : List Line) → ReadsTo input config script → IsDoneOrWanting s
+
+-- ---- by the command
+
+-- why the command ended so: by the bytes of its input, or, where it reads none, by memory and the sink alone
+abbrev pub ExplainsAll : Option Command → Option (List ℕ) → Option (List ℕ) → Ran → Option (List ℕ) → Option (List ℕ) → Type 0
+ExplainsAll (Some command.Run) left after ran before now = IsExplained left after ran.status ran.output
+ExplainsAll (Some command.Check) left after ran before now = IsCheckExplained left after ran.status before now
+ExplainsAll (Some (command.Make n)) left after ran before now = EndsWriting ran.status
+ExplainsAll None left after ran before now = ran.status ≡ status.Usage

@@ -12,7 +12,7 @@ use script_form::{
 use std::alloc::Global;
 
 // The configuration and the script of an input, or the first status that refuses it.
-fn read_input(alloc: Global, bytes: &[u8]) -> Result<(Config, Script), Status>
+pub(crate) fn read_input(alloc: Global, bytes: &[u8]) -> Result<(Config, Script), Status>
     ensures { MatchResult result (λ r. ReadsTo bytes.now r.0 r.1) (IsRefusal bytes.now) }
 {
     if too_large(bytes) {

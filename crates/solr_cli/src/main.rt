@@ -3,7 +3,10 @@
 
 mod answer;
 mod arguments;
+mod check;
+mod command;
 mod ending;
+mod make;
 mod reading;
 mod status;
 #[cfg(test)]
@@ -12,8 +15,11 @@ mod top;
 mod writing;
 
 pub use arguments::words_of;
+pub use check::check_script;
+pub use command::{Command, read_words};
 pub use ending::tell_end;
 use field_schema::NoMemory;
+pub use make::make_script;
 use rt_edge::{OpenGate, StdSink, StdSource, Writing};
 pub use status::{Status, status_line};
 use std::env;

@@ -368,6 +368,44 @@ fn requests_are_answered(rt: HostRuntime) -> Result<(), Fail> {
     check(&rt, alloc, "run", input.as_bytes(), (0, "", want.as_str()))
 }
 
+// The script of the generator for one document.
+const MADE: &str =
+    "{\"df\":\"t\",\"filterCache\":{\"autowarmCount\":16},\"queryResultCache\":{\"autowarmCount\":16},\"schema\":{\"fields\":[{\"name\":\"id\",\"type\":\"string\"},{\"name\":\"cat\",\"type\":\"string\"},{\"name\":\"price\",\"type\":\"plong\"},{\"name\":\"t\",\"type\":\"text_general\"}],\"uniqueKey\":\"id\"}}
+%%
+1 add {\"cat\":\"c3\",\"id\":\"d0\",\"price\":758,\"t\":\"w13 item\"}
+---
+1 commit
+1 query q=*:*&rows=0
+";
+
+// Words, an input, and what is written.
+const COMMANDS: [(&str, &str, &str); 2] = [
+    ("make 1", "", MADE),
+    (
+        "check",
+        MADE,
+        "{\"clients\":1,\"lines\":4,\"phases\":2,\"requests\":3}\n",
+    ),
+];
+
+// Words that are no command.
+const NO_COMMANDS: [&str; 14] = [
+    "",
+    "Run",
+    "run run",
+    "--",
+    "--help",
+    "run x",
+    "check check",
+    "make",
+    "make 0",
+    "make 20001",
+    "make 01",
+    "make +5",
+    "make x",
+    "make 1 2",
+];
+
 // A byte behind a configuration, and how often, that is too large once more.
 const SIZES: [(u8, usize); 2] = [(b'\n', 100_000), (b'#', 1_048_576)];
 
@@ -390,7 +428,14 @@ fn commands_end_as_they_should(rt: HostRuntime) -> Result<(), Fail> {
         input.push(byte)?;
         check(&rt, alloc, "run", &input, (7, "input too large\n", ""))?;
     }
-    for words in ["", "Run", "run run", "--", "--help", "run x"] {
+    for (words, input, want) in COMMANDS {
+        check(&rt, alloc, words, input.as_bytes(), (0, "", want))?;
+    }
+    for (config, script, code, line) in REFUSED {
+        let input = format!(in alloc; "{config}{script}")?;
+        check(&rt, alloc, "check", input.as_bytes(), (code, line, ""))?;
+    }
+    for words in NO_COMMANDS {
         let input = format!(in alloc; "{TWO_FIELDS}{FOUND}")?;
         check(&rt, alloc, words, input.as_bytes(), (2, status::USAGE, ""))?;
     }

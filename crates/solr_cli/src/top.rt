@@ -1,11 +1,15 @@
-ghost use Rattle.std.specs.Prelude.{◌≡◌, ◌↔◌, false, true, IfOk, IfErr, IfSome, map, string_bytes};
+ghost use Rattle.std.specs.Prelude.{◌≡◌, ◌≢◌, ◌↔◌, false, true, None, IfOk, IfErr, IfSome, map, string_bytes};
 ghost use Rattle.run_laws.specs.OutputText.{output_text};
 ghost use Rattle.client_runner.specs.Outputs.{output_view};
 ghost use Rattle.solr_cli.specs.declared.status.Status.TheVariants as Status;
 ghost use Rattle.solr_cli.specs.InputRuns.{IsReadRefusal, RanFrom, Refuses, TellsReads};
-ghost use Rattle.solr_cli.specs.Top.{Completes, CountsReads, CountsWrites, IsExplained, IsFlushed, IsSteady, WhereQuiet, Writes, is_run};
+ghost use Rattle.solr_cli.specs.Commands.{command_of, is_make, reads_input};
+ghost use Rattle.solr_cli.specs.Top.{Completes, CountsReads, CountsWrites, ExplainsAll, IsDoneOrWanting, IsExplained, IsFlushed, IsSteady, WhereQuiet, Writes, WritesOutput};
 
 use crate::answer::answer;
+use crate::check::check_script;
+use crate::command::{Command, read_words};
+use crate::make::make_script;
 use crate::reading::{ReadRefusal, read_all};
 use crate::status::Status;
 use crate::writing::write_text;
@@ -18,18 +22,8 @@ use std::alloc::Global;
 #[derive(Debug, Drop)]
 pub struct Ran {
     pub status: Status,
-    /// It is there exactly where the status is Done or WriteFault.
+    /// It is there exactly where the words are `run` and the status is Done or WriteFault.
     pub output: Option<Output>,
-}
-
-// Whether the words are exactly `run`. It takes no memory.
-fn are_run(words: &[String]) -> bool
-    ensures { result ≡ is_run (map string_bytes words.now) }
-{
-    match words {
-        [word] => word.as_str() == "run",
-        _ => false,
-    }
 }
 
 // Reads an input to its end and runs it.
@@ -51,49 +45,24 @@ fn run_input<S: Source, G: Gate>(
     }
 }
 
-/// Does what the words of a command line ask for: `run` reads the input to its end, runs its script and writes a
-/// line of JSON for each request and each searcher.
-///
-/// The words are those after the program's name. Statuses are looked at in this order: Usage, ReadFault, TooLarge,
-/// BadConfig, BadLine, want of memory in the run, WriteFault; want of memory may also come earlier. Only Done and
-/// WriteFault write, each write is lent all that is not yet written, and then `flush` is called once. Reading stops
-/// one byte over the greatest input. It costs the lengths of the input and of the output, and the run.
-pub fn run_top<S: Source, K: Sink, G: Gate>(
+// Runs an input and writes its output.
+fn run_and_write<S: Source, K: Sink, G: Gate>(
     alloc: Global,
-    words: &[String],
     input: &mut S,
     out: &mut K,
     gate: &G,
 ) -> Ran
-    // The words alone tell whether there is a command; without one nothing is read or written.
-    ensures usage { (result.status ≡ Status.Usage) ↔ (is_run (map string_bytes words.now) ≡ false) }
-    ensures unread { result.status ≡ Status.Usage → input.new ≡ input.old }
-
-    // A fault is told exactly where the outside failed in this call: else the counts of faults are as before.
+    ensures asked { result.status ≢ Status.Usage }
     ensures reads { CountsReads result.status (S.faults input.old) (S.faults input.new) }
     ensures faults { CountsWrites result.status (K.faults out.old) (K.faults out.new) }
-
-    // What is written is the text of the output that is handed back, or a front of it; else nothing is.
     ensures quiet { WhereQuiet result.status (out.new ≡ out.old) }
-    ensures writes { Writes result.status result.output (K.held out.old) (K.held out.new) }
+    ensures writes { WritesOutput result.status result.output (K.held out.old) (K.held out.new) }
     ensures flushed { result.status ≡ Status.Done → IsFlushed (K.flushed out.old) (K.flushed out.new) }
-
-    // Where the source tells its bytes, they explain the status: the run of an input that reads goes by one legal
-    // history of the registry, and is lawful.
     ensures explained { IsExplained (S.left input.old) (S.left input.new) result.status result.output }
-
-    // An input that reads is run, unless memory was wanting or the outside failed.
-    ensures completes { is_run (map string_bytes words.now) ≡ true
-        → IsSteady (S.faults input.old) (S.faults input.new)
+    ensures completes { IsSteady (S.faults input.old) (S.faults input.new)
         → IsSteady (K.faults out.old) (K.faults out.new)
         → IfSome (S.left input.old) (Completes result.status) }
 {
-    if !are_run(words) {
-        return Ran {
-            status: Status::Usage,
-            output: None,
-        };
-    }
     match run_input(alloc, input, gate) {
         Ok((output, text)) => {
             let status = match write_text(out, text.get().as_bytes()) {
@@ -107,6 +76,67 @@ pub fn run_top<S: Source, K: Sink, G: Gate>(
         }
         Err(status) => Ran {
             status,
+            output: None,
+        },
+    }
+}
+
+/// Does what the words of a command line ask for. `run` reads the input to its end, runs its script and writes a line
+/// of JSON for each request and each searcher. `check` reads the input to its end and writes the counts of its script.
+/// `make N` reads nothing and writes the generator's script of N documents.
+///
+/// The words are those after the program's name. Statuses are looked at in this order: Usage, ReadFault, TooLarge,
+/// BadConfig, BadLine, want of memory in the run, WriteFault; want of memory may also come earlier. Only Done and
+/// WriteFault write, each write is lent all that is not yet written, and then `flush` is called once. Reading stops
+/// one byte over the greatest input. It costs the lengths of the input and of what is written, and the run.
+pub fn run_top<S: Source, K: Sink, G: Gate>(
+    alloc: Global,
+    words: &[String],
+    input: &mut S,
+    out: &mut K,
+    gate: &G,
+) -> Ran
+    // The words alone tell whether there is a command; without one, and by one that makes a script, nothing is read.
+    ensures usage { (result.status ≡ Status.Usage) ↔ (command_of (map string_bytes words.now) ≡ None) }
+    ensures unread { reads_input (command_of (map string_bytes words.now)) ≡ false → input.new ≡ input.old }
+
+    // A fault is told exactly where the outside failed in this call: else the counts of faults are as before.
+    ensures reads { CountsReads result.status (S.faults input.old) (S.faults input.new) }
+    ensures faults { CountsWrites result.status (K.faults out.old) (K.faults out.new) }
+
+    // What is written is the command's text, of a run that of the output which is handed back, or a front of it.
+    ensures quiet { WhereQuiet result.status (out.new ≡ out.old) }
+    ensures writes { Writes (command_of (map string_bytes words.now)) result.status result.output
+        (K.held out.old) (K.held out.new) }
+    ensures flushed { result.status ≡ Status.Done → IsFlushed (K.flushed out.old) (K.flushed out.new) }
+
+    // Where the source tells its bytes, they explain the status: the run of an input that reads goes by one legal
+    // history of the registry, and is lawful; a check tells the counts of the script that the bytes read to.
+    ensures explained { ExplainsAll (command_of (map string_bytes words.now))
+        (S.left input.old) (S.left input.new) result (K.held out.old) (K.held out.new) }
+
+    // An input that reads is run or counted, and a script is made, unless memory was wanting or the outside failed.
+    ensures completes { reads_input (command_of (map string_bytes words.now)) ≡ true
+        → IsSteady (S.faults input.old) (S.faults input.new)
+        → IsSteady (K.faults out.old) (K.faults out.new)
+        → IfSome (S.left input.old) (Completes result.status) }
+    ensures makes { is_make (command_of (map string_bytes words.now)) ≡ true
+        → IsSteady (K.faults out.old) (K.faults out.new) → IsDoneOrWanting result.status }
+{
+    let Some(command) = read_words(words) else {
+        return Ran {
+            status: Status::Usage,
+            output: None,
+        };
+    };
+    match command {
+        Command::Run => run_and_write(alloc, input, out, gate),
+        Command::Check => Ran {
+            status: check_script(alloc, input, out),
+            output: None,
+        },
+        Command::Make(count) => Ran {
+            status: make_script(alloc, count, out),
             output: None,
         },
     }

@@ -20,4 +20,4 @@ pub returns-in-Ok-clause-refused : goal.returns-in-Ok-clause-refused
 returns-in-Ok-clause-refused g c =
     let counted : MatchResult c.count_bytes.result (TellsCounts c.in-Ok.bytes.items) (IsRefusal c.in-Ok.bytes.items) =
     subst (λ t. MatchResult c.count_bytes.result (TellsCounts t) (IsRefusal t)) c.deref.ensures.value c.count_bytes.ensures in
-    refused_over (g.S.Source.left c.args.input.now) (g.S.Source.left c.read_all.new.input) c.in-Ok.bytes.items c.count_bytes.result c.in-Ok.ensures.taken c.in-Ok.ensures.whole counted
+    refused_over (TellsCounts c.in-Ok.bytes.items) (g.S.Source.left c.args.input.now) (g.S.Source.left c.read_all.new.input) c.in-Ok.bytes.items c.count_bytes.result c.in-Ok.ensures.taken c.in-Ok.ensures.whole counted

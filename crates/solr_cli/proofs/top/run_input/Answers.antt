@@ -14,4 +14,4 @@ pub returns-in-Ok-clause-refused : goal.returns-in-Ok-clause-refused
 returns-in-Ok-clause-refused g c =
     let answered : MatchResult c.answer.result (λ p. IsAnswer c.in-Ok.bytes.items (output_view p.0) p.1) (IsRefusal c.in-Ok.bytes.items) =
     subst (λ t. MatchResult c.answer.result (λ p. IsAnswer t (output_view p.0) p.1) (IsRefusal t)) c.deref.ensures.value c.answer.ensures in
-    refused_over (g.S.Source.left c.args.input.now) (g.S.Source.left c.read_all.new.input) c.in-Ok.bytes.items c.answer.result c.in-Ok.ensures.taken c.in-Ok.ensures.whole answered
+    refused_over (λ p. IsAnswer c.in-Ok.bytes.items (output_view p.0) p.1) (g.S.Source.left c.args.input.now) (g.S.Source.left c.read_all.new.input) c.in-Ok.bytes.items c.answer.result c.in-Ok.ensures.taken c.in-Ok.ensures.whole answered
