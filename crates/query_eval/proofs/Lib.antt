@@ -1,7 +1,4 @@
 pub mod Verdicts
-pub mod SpanKeys
-pub mod Covering
-pub mod Pieces
 pub mod Phrases
 pub mod Ascents
 pub mod Loops

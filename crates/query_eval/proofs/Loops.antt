@@ -5,8 +5,6 @@ use Rattle.std.specs.FinSet.{union, from_list, empty, contains, contains-union, 
 use Rattle.std.specs.Cmp.{nat_cmp_total}
 use Rattle.std.specs.Ordering.{nat_cmp, is_lt}
 use Rattle.std.proofs.lemmas.List.{map-append}
-use Rattle.field_schema.specs.Laws.{key_cmp-refl}
-use Rattle.query_tree.specs.Matches.{has_key}
 use Rattle.doc_sets.proofs.Rising.{Rises-lower}
 use Rattle.std.proofs.lemmas.Bool.{or_from, and_from}
 use Rattle.std.proofs.lemmas.List.Folds.{list_any_more, list_all_more, list_any_at, list_all_at, list_any-append}
@@ -16,22 +14,11 @@ use Rattle.doc_sets.specs.declared.TheConstants.{MAX_DOCS}
 use Rattle.segment_postings.specs.declared.posting.Posting.{Posting}
 use Rattle.segment_postings.specs.declared.posting.Counts.{Counts}
 use Rattle.segment_postings.specs.Numbered.{Numbered}
-use Rattle.segment_postings.specs.Terms.{is_before, terms_from}
-use Rattle.query_eval.specs.declared.span.Span.{Span}
-use Rattle.query_eval.specs.Found.{found}
-use Rattle.query_eval.specs.Kept.{Kept, IsSound}
+use Rattle.query_eval.specs.Kept.{Kept}
 use Rattle.query_eval.specs.Runs.{is_place_in, followed_by, from_doc, starts_at_first, DocsRise, AllPlacesRise}
-use Rattle.query_eval.specs.Spans.{takes, is_past, first_of, taken_keys}
-use Rattle.query_eval.proofs.Covering.{rest_from, covered}
-use Rattle.query_eval.proofs.Pieces.{Behind, behind, all_of_them, union_assoc, taken_append, none_left}
-use Rattle.query_eval.proofs.SpanKeys.{at_most}
-use Rattle.query_eval.proofs.Verdicts.{found_none}
 use Rattle.query_eval.proofs.Ascents.{skip_same, at_first, rises_from_doc, rise_from_doc}
 
 -- ---- what stays
-
-pub sound_kept : {S : Type 0} (seen : S → Numbered) (keys : S → ℕ → List Key) (counted : S → Counts) (old new : S) → Kept seen keys counted old new → IsSound (seen old) (keys old) → IsSound (seen new) (keys new)
-sound_kept seen keys counted old new k s = subst (λ (v : Numbered). IsSound v (keys new)) (sym k.view) (subst (λ (ts : ℕ → List Key). IsSound (seen old) ts) (sym k.terms) s)
 
 pub kept_on : {S : Type 0} (seen : S → Numbered) (keys : S → ℕ → List Key) (counted : S → Counts) (a b c : S) → Kept seen keys counted a b → Kept seen keys counted b c → Kept seen keys counted a c
 kept_on seen keys counted a b c k l = record {
@@ -92,13 +79,6 @@ with_none s = same_set nat_cmp_total nat_cmp-IsAntisymmetric _ _ (λ n.
     or_none true = refl
     or_none false = refl
 
--- ---- a walk along terms
-
-pub record Walked (v : Numbered) (terms : List Key) (s : Span) (field : ℕ) (first : Numbers) (numbers : List ℕ) (from : Key) (most : ℕ) : Type 0 where
-  pub two : 2 ≤ most
-  pub later : is_before from (first_of s) ≡ false
-  pub left : union (from_list numbers) (found (taken_keys s field (rest_from terms from)) v) ≡ union first (found (taken_keys s field (rest_from terms (first_of s))) v)
-
 -- ---- postings that follow
 
 pub record Follows (held next : List Posting) (offset i : ℕ) (rest done : List Posting) : Type 0 where
@@ -133,51 +113,6 @@ drop_one i xs x h is =
 
 pub map_one : {A B : Type 0} (f : A → B) (i : ℕ) (xs : List A) (x : A) → i < length xs → x ≡ get_or xs i x → map f (take (i + 1) xs) ≡ map f (take i xs) ++ f x ∷ []
 map_one f i xs x h is = ap (map f) (take_one i xs x h is) ∙ map-append f (take i xs) (x ∷ [])
-
--- ---- the steps of a walk
-
-pub walked_start : (v : Numbered) (terms : List Key) (s : Span) (field : ℕ) (numbers : List ℕ) (most : ℕ) → 2 ≤ most → Walked v terms s field (from_list numbers) numbers (first_of s) most
-walked_start v terms s field numbers most two = record { two = two; later = ap is_lt (key_cmp-refl (first_of s)); left = refl }
-
--- what was asked of a view and its terms, and what the piece that came adds to the numbers
-pub record Piece (v : Numbered) (ts : ℕ → List Key) (s : Span) (field : ℕ) (from : Key) (most : ℕ) (piece rest : List Key) (numbers more : List ℕ) : Type 0 where
-  pub taken : terms_from (ts field) from most ≡ piece
-  pub added : from_list more ≡ union (from_list numbers) (found (taken_keys s field rest) v)
-
-pub piece_of : (v w : Numbered) (ts us : ℕ → List Key) (s : Span) (field : ℕ) (from : Key) (most : ℕ) (piece rest keys : List Key) (numbers more : List ℕ) → w ≡ v → us ≡ ts → piece ≡ terms_from (us field) from most → keys ≡ rest → from_list more ≡ union (from_list numbers) (found (taken_keys s field keys) w) → Piece v ts s field from most piece rest numbers more
-piece_of v w ts us s field from most piece rest keys numbers more same terms is kept added = record {
-  taken = sym (is ∙ ap (λ (x : ℕ → List Key). terms_from (x field) from most) terms);
-  added = added ∙ (λ i. union (from_list numbers) (found (taken_keys s field (kept i)) (same i)));
-}
-
-module _ (v : Numbered) (ts : ℕ → List Key) (s : Span) (field : ℕ) (first : Numbers) (numbers : List ℕ) (from : Key) (most : ℕ) (piece rest : List Key) (more : List ℕ) (sound : IsSound v ts) (w : Walked v (ts field) s field first numbers from most) (p : Piece v ts s field from most piece rest numbers more) where
-  pub walked_whole : piece ≡ rest → length piece < most → from_list more ≡ union first (found (λ d. has_key d.values field (takes s)) v)
-  walked_whole whole few =
-      p.added ∙ ap (λ ks. union (from_list numbers) (found (taken_keys s field ks) v)) (sym whole ∙ all_of_them (ts field) from most piece p.taken few) ∙ w.left ∙ ap (union first) (covered s field v ts sound.terms)
-
-  -- where the last of the piece begins the next
-  module _ (next : Key) (parted : piece ≡ rest ++ next ∷ []) where
-    pub behind_piece : Behind (ts field) from rest next
-    behind_piece = behind (ts field) from most rest next (sound.terms.ascending field) (p.taken ∙ parted)
-
-    pub walked_on : (many : ℕ) → 2 ≤ many → Walked v (ts field) s field first more next many
-    walked_on many two =
-        let b = behind_piece in record {
-          two = two;
-          later = at_most (first_of s) from next w.later b.later;
-          left =
-              ap (λ t. union t (found (taken_keys s field (rest_from (ts field) next)) v)) p.added
-              ∙ union_assoc (from_list numbers) (found (taken_keys s field rest) v) (found (taken_keys s field (rest_from (ts field) next)) v)
-              ∙ ap (union (from_list numbers)) (sym (taken_append s field rest (rest_from (ts field) next) v sound.numbered) ∙ ap (λ ks. found (taken_keys s field ks) v) (sym b.split))
-              ∙ w.left;
-        }
-
-    pub walked_past : is_past s next ≡ true → from_list more ≡ union first (found (λ d. has_key d.values field (takes s)) v)
-    walked_past past =
-        sym (with_none (from_list more))
-        ∙ ap (union (from_list more)) (found_none v ∙ sym (none_left s field (ts field) next v (at_most (first_of s) from next w.later behind_piece.later) past))
-        ∙ (walked_on 2 (omega arith)).left
-        ∙ ap (union first) (covered s field v ts sound.terms)
 
 -- ---- the steps along postings
 

@@ -14,10 +14,9 @@ use Rattle.segment_postings.specs.Numbered.{Numbered, IsNumbered}
 use Rattle.segment_postings.specs.Postings.{has_key_at, postings_of}
 use Rattle.query_eval.specs.Found.{numbers_where, found}
 use Rattle.query_eval.specs.Runs.{followed_by, filled_numbers, DocsRise}
-use Rattle.query_eval.proofs.Ascents.{ascending_where}
+use Rattle.query_eval.proofs.Ascents.{ascending_where, posting_numbers}
 use Rattle.query_eval.proofs.Loops.{take_all, take_one}
 use Rattle.query_eval.proofs.Phrases.{starts_of, runs, runs_upto, runs_none, runs_more, phrase_numbers}
-use Rattle.query_eval.proofs.Pieces.{posting_numbers}
 use Rattle.query_eval.proofs.Verdicts.{found_none}
 
 -- ---- numbers ascend

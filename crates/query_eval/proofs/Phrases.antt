@@ -20,7 +20,14 @@ use Rattle.segment_postings.proofs.PostingsGathered.{any_place}
 use Rattle.query_eval.specs.Found.{numbers_where}
 use Rattle.query_eval.specs.Runs.{same_place, is_place, is_place_in, followed_by, filled_numbers}
 use Rattle.query_eval.proofs.Verdicts.{and_false, or_false, doc_of, verdict, passes, absent, settle}
-use Rattle.query_eval.proofs.Covering.{any_filter, same_tests}
+use Rattle.query_eval.proofs.Ascents.{same_tests}
+
+any_filter : {A : Type 0} (p q : A → Bool) (xs : List A) → list_any p (filter q xs) ≡ list_any (λ x. q x && p x) xs
+any_filter p q [] = refl
+any_filter p q (x ∷ xs) = elim (q x) as (λ b. list_any p (cond b (x ∷ filter q xs) (filter q xs)) ≡ ((b && p x) || list_any (λ x. q x && p x) xs)) [
+  | true ↦ ap (λ b. p x || b) (any_filter p q xs)
+  | false ↦ any_filter p q xs
+]
 
 -- the words stand in turn from a place on
 abbrev pub follow : List Key → List (List ℕ) → ℕ × ℕ → Bool

@@ -19,15 +19,14 @@ use Rattle.doc_sets.specs.declared.TheConstants.{MAX_DOCS}
 use Rattle.doc_sets.proofs.Members.{increasing, all_documents}
 use Rattle.segment_postings.specs.declared.posting.Posting.{Posting}
 use Rattle.segment_postings.specs.Numbered.{Numbered, IsNumbered, numbers}
-use Rattle.query_eval.specs.declared.span.Span.{Span}
-use Rattle.query_eval.specs.declared.span.Span.TheVariants.{Strings, Tokens}
+use Rattle.segment_postings.specs.declared.span.Span.TheVariants.{Strings, Tokens}
+use Rattle.segment_postings.specs.Spans.{takes, numbers_within}
 use Rattle.query_eval.specs.Found.{numbers_where, found, part, answer}
 use Rattle.query_eval.specs.Many.{IsUnion, IsCommon}
 use Rattle.query_eval.specs.Runs.{starts_at_first, is_place}
-use Rattle.query_eval.specs.Spans.{takes, taken_keys}
 use Rattle.query_eval.proofs.Ascents.{ascending_where}
-use Rattle.query_eval.proofs.Loops.{with_none, joined}
-use Rattle.query_eval.proofs.Verdicts.{or_false, found_or, found_alike, found_none, found_all, found_some, found_every}
+use Rattle.query_eval.proofs.Loops.{joined}
+use Rattle.query_eval.proofs.Verdicts.{or_false, found_or, found_alike, found_all, found_some, found_every}
 use Rattle.query_eval.proofs.KindsOfQueries.{part_should, part_must, answer_negative}
 
 -- ---- places in the first posting
@@ -86,11 +85,6 @@ found_documents p v sound = λ n h.
     let same : some.1 ≡ n = eqb-true some.1 n some.4 in
     subst (λ (m : ℕ). m < MAX_DOCS) (some.3 ∙ same) (all_documents _ (ascending_where p v sound) some.0 some.1 some.2)
 
--- ---- keys so far
-
-pub no_keys : (s : Span) (field : ℕ) (v : Numbered) (first : Numbers) → first ≡ union first (found (taken_keys s field []) v)
-no_keys s field v first = sym (with_none first) ∙ ap (union first) (found_none v)
-
 -- ---- two sets become one
 
 pub joined_step : (before middle rest after : List Numbers) (a b all : Numbers) (n : ℕ) → before ≡ a ∷ middle → middle ≡ b ∷ rest → after ≡ rest ++ all ∷ [] → all ≡ union a b → list_any (λ t. contains t n) after ≡ list_any (λ t. contains t n) before
@@ -105,7 +99,13 @@ pub nothing_left : (xs ys : List Numbers) → xs ≡ ys → ys ≡ drop 1 xs →
 nothing_left [] ys e r = refl
 nothing_left (x ∷ xs) ys e r = absurd (omega (arith, ap length (e ∙ r)))
 
--- ---- walks that begin with no number
+-- ---- the numbers of documents with a key of some
+
+pub found_within : (field : ℕ) (p : Key → Bool) (v : Numbered) → numbers_within v field p ≡ found (λ d. has_key d.values field p) v
+unfolding numbers_within found
+found_within field p v = refl
+
+-- ---- sets that begin with no number
 
 pub none_with : (s : Numbers) → union (from_list []) s ≡ s
 none_with s = same_set nat_cmp_total nat_cmp-IsAntisymmetric _ _ (λ n.
@@ -127,18 +127,21 @@ any_or p q (x ∷ xs) = turned (p x) (q x) (list_any p xs) (list_any q xs) ∙ a
     turned false true false d = refl
     turned false false c d = refl
 
-either_prefix : (p : Bor (List ℕ)) (k : Key) → (takes (Strings p) k || takes (Tokens p) k) ≡ has_prefix p.now k
+pub either_prefix : (p : Bor (List ℕ)) (k : Key) → (takes (Strings p) k || takes (Tokens p) k) ≡ has_prefix p.now k
 either_prefix p (key.Str t) = or_false (starts_with nat_eq t p.now)
 either_prefix p (key.Token t) = refl
 either_prefix p (key.Long n) = refl
 either_prefix p (key.Bool b) = refl
 
-pub prefix_found : (p : Bor (List ℕ)) (field : ℕ) (v : Numbered) → IsNumbered v → union (found (λ d. has_key d.values field (takes (Strings p))) v) (found (λ d. has_key d.values field (takes (Tokens p))) v) ≡ found (λ d. has_key d.values field (has_prefix p.now)) v
+prefix_found : (p : Bor (List ℕ)) (field : ℕ) (v : Numbered) → IsNumbered v → union (found (λ d. has_key d.values field (takes (Strings p))) v) (found (λ d. has_key d.values field (takes (Tokens p))) v) ≡ found (λ d. has_key d.values field (has_prefix p.now)) v
 prefix_found p field v sound =
     found_or (λ d. has_key d.values field (takes (Strings p))) (λ d. has_key d.values field (takes (Tokens p))) v sound
     ∙ found_alike _ _ v (λ d.
     any_or (takes (Strings p)) (takes (Tokens p)) (keys_in d.values field)
     ∙ (λ i. list_any (λ k. either_prefix p k i) (keys_in d.values field)))
+
+pub both_prefixes : (p : Bor (List ℕ)) (field : ℕ) (v : Numbered) → IsNumbered v → union (numbers_within v field (takes (Strings p))) (numbers_within v field (takes (Tokens p))) ≡ found (λ d. has_key d.values field (has_prefix p.now)) v
+both_prefixes p field v sound = (λ i. union (found_within field (takes (Strings p)) v i) (found_within field (takes (Tokens p)) v i)) ∙ prefix_found p field v sound
 
 -- ---- queries of parts
 

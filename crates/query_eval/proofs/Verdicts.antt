@@ -112,19 +112,6 @@ found_none v = sym (ap (λ list. from_list {R = nat_cmp} (map (λ e. e.0) list))
 pub found_alike : (p q : Document → Bool) (v : Numbered) → ((d : Document) → p d ≡ q d) → found p v ≡ found q v
 found_alike p q v same = λ i. found (λ d. same d i) v
 
--- tests that agree at each document of the list
-abbrev pub Agree : (Document → Bool) → (Document → Bool) → List (ℕ × Document) → Type 0
-Agree p q [] = Unit {0}
-Agree p q (e ∷ es) = (p e.1 ≡ q e.1) × Agree p q es
-
-where_agree : (p q : Document → Bool) (list : List (ℕ × Document)) → Agree p q list → filter (λ e. p e.1) list ≡ filter (λ e. q e.1) list
-where_agree p q [] h = refl
-where_agree p q (e ∷ es) h = (λ i. cond (h.0 i) (e ∷ where_agree p q es h.1 i) (where_agree p q es h.1 i))
-
-pub found_agree : (p q : Document → Bool) (v : Numbered) → Agree p q v.list → found p v ≡ found q v
-unfolding found
-found_agree p q v h = ap (λ list. from_list {R = nat_cmp} (map (λ e. e.0) list)) (where_agree p q v.list h)
-
 -- ---- many sets
 
 any_map : {A B : Type 0} (p : B → Bool) (f : A → B) (xs : List A) → list_any p (map f xs) ≡ list_any (λ x. p (f x)) xs

@@ -1,6 +1,6 @@
 -- The numbers of the documents of a view of which a test holds.
-use Rattle.std.specs.Prelude.{◌≡◌, ℕ, List, Bool, Result, IfOk, OnOk, map, filter}
-use Rattle.std.specs.FinSet.{from_list, union}
+use Rattle.std.specs.Prelude.{◌≡◌, ℕ, List, Bool, Result, IfOk, map, filter}
+use Rattle.std.specs.FinSet.{from_list}
 use Rattle.doc_model.specs.Document.{Document}
 use Rattle.doc_sets.specs.Sets.{Numbers}
 use Rattle.query_tree.specs.declared.query.Query.{Query}
@@ -26,7 +26,3 @@ part q v = found (λ d. matches d.values q) v
 -- for private clauses: a call answers with the set of them
 abbrev pub Finds : {E : Type 0} → Result Numbers E → (Document → Bool) → Numbered → Type 0
 Finds result p v = IfOk result (λ s. s ≡ found p v)
-
--- for private clauses: the numbers of those that pass are added
-abbrev pub Adds : {T E : Type 0} → Result T E → List ℕ → List ℕ → (Document → Bool) → Numbered → Type 0
-Adds result old new p v = OnOk result (from_list new ≡ union (from_list old) (found p v))

@@ -1,17 +1,12 @@
--- What an evaluation may rely on and leaves as it was.
+-- What an evaluation leaves as it was.
 use Rattle.std.specs.Prelude.{◌≡◌, ℕ, List}
 use Rattle.field_schema.specs.declared.key.Key.{Key}
 use Rattle.query_tree.specs.declared.query.Query.{Query}
 use Rattle.query_tree.specs.declared.query.Query.TheOpen.{Query-F}
 use Rattle.query_tree.specs.declared.query.Query.TheOpen as node
 use Rattle.segment_postings.specs.declared.posting.Counts.{Counts}
-use Rattle.segment_postings.specs.Numbered.{Numbered, IsNumbered}
-use Rattle.segment_postings.specs.Terms.{AreTerms, raised}
-
--- the numbers ascend, and the terms ascend and cover the keys
-pub record IsSound (v : Numbered) (ts : ℕ → List Key) : Type 0 where
-  pub numbered : IsNumbered v
-  pub terms : AreTerms v ts
+use Rattle.segment_postings.specs.Numbered.{Numbered}
+use Rattle.segment_postings.specs.Terms.{raised}
 
 -- the view and the terms stay, and neither a sort value nor a document was read
 pub record Kept {S : Type 0} (seen : S → Numbered) (keys : S → ℕ → List Key) (counted : S → Counts) (old new : S) : Type 0 where

@@ -2,12 +2,13 @@
 ghost use Rattle.std.specs.Prelude.{◌≡◌, ◌&&◌, IfOk, IsTrue, map, not};
 ghost use Rattle.query_tree.specs.declared.query.Query.{out-Query};
 ghost use Rattle.query_tree.specs.Matches.{is_negative};
+ghost use Rattle.segment_postings.specs.Numbered.{IsNumbered};
 ghost use Rattle.query_eval.specs.Found.{answer, part};
-ghost use Rattle.query_eval.specs.Kept.{Asks, IsSound, Kept};
+ghost use Rattle.query_eval.specs.Kept.{Asks, Kept};
 
+use crate::keys::{beginning, between, term};
 use crate::phrase::phrase;
 use crate::sets::{common, copy_of, united, without};
-use crate::walk::{beginning, between, term};
 use doc_sets::DocSet;
 use field_schema::NoMemory;
 use query_tree::{End, Queries, Query};
@@ -23,8 +24,8 @@ use std::alloc::Global;
 /// A key asks for its postings once, also where it fails, and `*:*` asks for nothing.
 ///
 /// It costs what the postings and places of its keys and words come to, for a range, a prefix or an existence the
-/// terms between its ends and a sort of their documents' numbers, and for a Boolean query its parts' sets, each
-/// copied as often as the logarithm of their number.
+/// places of the keys between its ends and a sort of their documents' numbers, and for a Boolean query its parts'
+/// sets, each copied as often as the logarithm of their number.
 pub fn eval<P: Reads>(alloc: Global, probe: &mut P, query: &Query) -> Result<DocSet, NoMemory>
     ensures found { IfOk result (λ s. s ≡ answer query.now (P.view probe.old)) }
     ensures view { P.view probe.new ≡ P.view probe.old }
@@ -33,7 +34,7 @@ pub fn eval<P: Reads>(alloc: Global, probe: &mut P, query: &Query) -> Result<Doc
     ensures stored_count { (P.counted probe.new).stored ≡ (P.counted probe.old).stored }
     ensures postings_count { Asks (out-Query query.now) (P.counted probe.old).postings (P.counted probe.new).postings }
 {
-    // What is asked of a view is known from here on: its documents' numbers ascend, and its terms are all there.
+    // What is asked of a view is known from here on: its documents' numbers ascend.
     let _live = probe.live();
     match query {
         Query::Bool { must, should, not } => {
@@ -58,7 +59,7 @@ pub(crate) fn is_negative(must: &Queries, should: &Queries, not: &Queries) -> bo
 // What a query matches where it stands inside another.
 #[cycle(evaluating)]
 fn nested<P: Reads>(alloc: Global, probe: &mut P, query: &Query) -> Result<DocSet, NoMemory>
-    requires { IsSound (P.view probe.old) (P.terms probe.old) }
+    requires { IsNumbered (P.view probe.old) }
     ensures found { IfOk result (λ s. s ≡ part query.now (P.view probe.old)) }
     ensures kept { Kept P.view P.terms P.counted probe.old probe.new }
     ensures asked { Asks (out-Query query.now) (P.counted probe.old).postings (P.counted probe.new).postings }
@@ -86,7 +87,7 @@ fn nested<P: Reads>(alloc: Global, probe: &mut P, query: &Query) -> Result<DocSe
 // What each of the queries matches.
 #[cycle(evaluating)]
 fn parts<P: Reads>(alloc: Global, probe: &mut P, queries: &[Query]) -> Result<Vec<DocSet>, NoMemory>
-    requires { IsSound (P.view probe.old) (P.terms probe.old) }
+    requires { IsNumbered (P.view probe.old) }
     ensures found { IfOk result (λ v. v.items ≡ map (λ q. part q (P.view probe.old)) queries.now) }
     ensures kept { Kept P.view P.terms P.counted probe.old probe.new }
 {

@@ -2,13 +2,12 @@
 #![tactic(auto)]
 
 mod evaluating;
+mod keys;
 mod marks;
 mod matching;
 mod numbers;
 mod phrase;
 mod sets;
-mod span;
-mod walk;
 
 pub use evaluating::eval;
 pub use matching::matches;

@@ -6,10 +6,10 @@ ghost use Rattle.query_tree.specs.Matches.{has_key, matches as nested, stand_in,
 ghost use Rattle.query_eval.specs.Sought.{seeks, says_words};
 
 use crate::evaluating::is_negative;
-use crate::span::{has_prefix, is_above, is_below};
 use doc_model::Doc;
 use field_schema::{FieldNo, Key, NoMemory, Text, tokens};
 use query_tree::{End, Query};
+use segment_postings::Span;
 use std::alloc::Global;
 
 // What is asked of a document's keys.
@@ -33,8 +33,10 @@ impl<'a> Sought<'a> {
         match self {
             Sought::Any => true,
             Sought::This(sought) => *sought == key,
-            Sought::Beginning(prefix) => has_prefix(prefix, key),
-            Sought::Between(low, high) => is_above(low, key) && is_below(high, key),
+            Sought::Beginning(prefix) => {
+                Span::Strings(prefix).takes(key) || Span::Tokens(prefix).takes(key)
+            }
+            Sought::Between(low, high) => Span::Between(low, high).takes(key),
         }
     }
 }

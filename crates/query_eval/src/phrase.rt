@@ -1,15 +1,16 @@
 //! Phrases, by the places of their words.
 ghost use Rattle.std.specs.Prelude.{◌≡◌, ◌+◌, ◌∷◌, [], IfOk, map, filter};
+ghost use Rattle.segment_postings.specs.Numbered.{IsNumbered};
 ghost use Rattle.segment_postings.specs.Postings.{postings_of};
 ghost use Rattle.field_schema.specs.declared.key.Key.TheVariants as key;
 ghost use Rattle.query_eval.specs.Found.{Finds};
 ghost use Rattle.query_eval.specs.Sought.{says_words};
-ghost use Rattle.query_eval.specs.Kept.{Kept, IsSound};
+ghost use Rattle.query_eval.specs.Kept.{Kept};
 ghost use Rattle.query_eval.specs.Runs.{followed_by, is_place, same_place, is_ahead, from_doc, from_place};
 ghost use Rattle.query_eval.specs.Runs.{starts_here, begins_at, filled_numbers};
 ghost use Rattle.query_eval.specs.Runs.{DocsRise, PlacesRise, AllPlacesRise};
 
-use crate::walk::term;
+use crate::keys::term;
 use doc_sets::{DocNo, DocSet};
 use field_schema::{FieldNo, Key, NoMemory, Text};
 use segment_postings::{Places, Posting, Reads};
@@ -22,7 +23,7 @@ pub(crate) fn phrase<P: Reads>(
     field: FieldNo,
     words: &[Text],
 ) -> Result<DocSet, NoMemory>
-    requires { IsSound (P.view probe.old) (P.terms probe.old) }
+    requires { IsNumbered (P.view probe.old) }
     ensures found { Finds result (λ d. says_words d.values field words.now) (P.view probe.old) }
     ensures kept { Kept P.view P.terms P.counted probe.old probe.new }
 {
@@ -42,7 +43,7 @@ fn alone<P: Reads>(
     field: FieldNo,
     word: &Text,
 ) -> Result<DocSet, NoMemory>
-    requires { IsSound (P.view probe.old) (P.terms probe.old) }
+    requires { IsNumbered (P.view probe.old) }
     ensures found { Finds result (λ d. says_words d.values field (word.now ∷ [])) (P.view probe.old) }
     ensures kept { Kept P.view P.terms P.counted probe.old probe.new }
 {
@@ -58,7 +59,7 @@ fn in_turn<P: Reads>(
     field: FieldNo,
     words: &[Text],
 ) -> Result<DocSet, NoMemory>
-    requires { IsSound (P.view probe.old) (P.terms probe.old) }
+    requires { IsNumbered (P.view probe.old) }
     ensures found { Finds result (λ d. says_words d.values field words.now) (P.view probe.old) }
     ensures kept { Kept P.view P.terms P.counted probe.old probe.new }
 {

@@ -127,7 +127,7 @@ doc_below : (k : Key) (n m : ℕ) (vs : List (ℕ × Key)) → n < m → All (λ
 doc_below k n m [] h = λ j d l. absurd (omega arith)
 doc_below k n m (v ∷ vs) h = All-append (λ o. o.place.doc < m) (of_value n v) (flat_map (of_value n) vs) (value_below k n v.0 _ m h) (doc_below k n m vs h)
 
-docs_below : (k : Key) (field n m : ℕ) (ds : List Document) → n + length ds ≤ m → All (λ o. o.place.doc < m) (flat_map (of_doc field) (enumerate_from n ds))
+pub docs_below : (k : Key) (field n m : ℕ) (ds : List Document) → n + length ds ≤ m → All (λ o. o.place.doc < m) (flat_map (of_doc field) (enumerate_from n ds))
 docs_below k field n m [] h = λ j d l. absurd (omega arith)
 docs_below k field n m (d ∷ ds) h =
     All-append (λ o. o.place.doc < m) (of_doc field (n, d)) (flat_map (of_doc field) (enumerate_from (n + 1) ds)) (doc_below k n m (enumerate_from 0 (values_at d.values field)) (omega arith)) (docs_below k field (n + 1) m ds (omega arith))

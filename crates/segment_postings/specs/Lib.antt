@@ -6,3 +6,4 @@ pub mod Views
 pub mod Groups
 pub mod Layout
 pub mod Renumbering
+pub mod Spans

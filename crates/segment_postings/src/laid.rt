@@ -1,15 +1,18 @@
 //! The keys of a field, each once, and their places in one row.
-ghost use Rattle.std.specs.Prelude.{◌≡◌, ◌<◌, ◌≤◌, ◌++◌, [], IfOk, OnOk, map, filter, fold, take, length, not};
+ghost use Rattle.std.specs.Prelude.{◌≡◌, ◌-◌, ◌<◌, ◌≤◌, ◌++◌, [], true, IfOk, OnOk, map, filter, fold, take, drop, length, not};
+ghost use Rattle.std.specs.List.{list_all};
 ghost use Rattle.std.specs.List.Sorted.{IsSortedByKey};
 ghost use Rattle.field_schema.specs.Keys.{key_cmp};
 ghost use Rattle.segment_postings.specs.Segments.{with_key};
+ghost use Rattle.segment_postings.specs.Spans.{takes, begins_behind};
 ghost use Rattle.segment_postings.specs.Terms.{Ascending, is_before, put_key, begins_with};
-ghost use Rattle.segment_postings.specs.Layout.{IsLaid, own_places, add_term, ends_with, first_places};
+ghost use Rattle.segment_postings.specs.Layout.{IsLaid, own_places, add_term, ends_with, first_places, start_of};
 ghost use Rattle.segment_postings.specs.Renumbering.{IsJoined};
 
 use crate::combining::{behind, least, own, put_term};
 use crate::occurrence::{Occurrence, Place};
 use crate::renumbering::add_moved;
+use crate::span::Span;
 use crate::terms::join;
 use field_schema::{Key, NoMemory};
 use std::alloc::Global;
@@ -107,6 +110,16 @@ impl Laid {
         first_places(rest, self.places.as_slice())
     }
 
+    /// The places of the keys that a span takes, key after key. It costs the logarithm of the number of keys.
+    pub fn places_within(&self, span: &Span) -> &[Place]
+        ensures { result.now ≡ map (λ o. o.place) (filter (λ o. takes span.now o.key) self.now) }
+    {
+        let places = self.places.as_slice();
+        let from = from_span(self.terms.as_slice(), span);
+        let behind = behind_span(from, span);
+        part(places, start_of(from, places), start_of(behind, places))
+    }
+
     /// Puts the keys at or after a key among ascending ones, and keeps the first `most` of all.
     ///
     /// It costs the logarithm of the number of keys, and those that come among the first.
@@ -170,6 +183,46 @@ fn from_term<'a>(terms: &'a [Term], key: &Key) -> &'a [Term]
 {
     let start = terms.partition_point(|t| t.key.cmp(key).is_lt());
     &terms[start..]
+}
+
+// The keys from the first on that does not stand before all that a span takes.
+fn from_span<'a>(terms: &'a [Term], span: &Span) -> &'a [Term]
+    requires { Ascending (map (λ t. t.key) terms.now) }
+    ensures split { filter (λ t. begins_behind span.now t.key) terms.now ++ result.now ≡ terms.now }
+    ensures behind { result.now ≡ filter (λ t. not (begins_behind span.now t.key)) terms.now }
+{
+    let start = terms.partition_point(|t| span.begins_behind(&t.key));
+    &terms[start..]
+}
+
+// The keys behind those that a span takes, where none stands before all of these.
+fn behind_span<'a>(terms: &'a [Term], span: &Span) -> &'a [Term]
+    requires ascending { Ascending (map (λ t. t.key) terms.now) }
+    requires from { list_all (λ t. not (begins_behind span.now t.key)) terms.now ≡ true }
+    ensures split { filter (λ t. takes span.now t.key) terms.now ++ result.now ≡ terms.now }
+    ensures behind { result.now ≡ filter (λ t. not (takes span.now t.key)) terms.now }
+{
+    let end = terms.partition_point(|t| span.takes(&t.key));
+    &terms[end..]
+}
+
+// Where the places of the first key begin.
+fn start_of(terms: &[Term], places: &[Place]) -> usize
+    ensures { result ≡ start_of terms.now places.now }
+{
+    match terms {
+        [first, ..] => first.start,
+        [] => places.len(),
+    }
+}
+
+// The places from one on to another.
+fn part(places: &[Place], start: usize, end: usize) -> &[Place]
+    requires order { start ≤ end }
+    requires within { end ≤ length places.now }
+    ensures { result.now ≡ take (end - start) (drop start places.now) }
+{
+    &places[start..end]
 }
 
 // The places of the first key.

@@ -10,10 +10,12 @@ mod probe;
 mod reads;
 mod renumbering;
 mod segment;
+mod span;
 mod terms;
 mod view;
 
 pub use posting::{Counts, Places, Posting};
 pub use probe::Probe;
 pub use reads::Reads;
+pub use span::Span;
 pub use view::View;

@@ -3,6 +3,7 @@ ghost use Rattle.segment_postings.specs.Views.{terms_of};
 
 use crate::posting::{Counts, Posting};
 use crate::reads::Reads;
+use crate::span::Span;
 use crate::view::View;
 use doc_model::Doc;
 use doc_sets::{DocNo, DocSet};
@@ -66,6 +67,16 @@ impl<'a> Reads for Probe<'a> {
     ) -> Result<(), NoMemory> {
         self.counts.postings = self.counts.postings.saturating_add(1);
         self.view.add_numbers(found, field, key)
+    }
+
+    fn add_numbers_within(
+        &mut self,
+        found: &mut Vec<DocNo>,
+        field: FieldNo,
+        span: &Span,
+    ) -> Result<(), NoMemory> {
+        self.counts.postings = self.counts.postings.saturating_add(1);
+        self.view.add_numbers_within(found, field, span)
     }
 
     fn terms_from(

@@ -6,9 +6,11 @@ ghost use Rattle.field_schema.specs.declared.key.Key.{Key};
 ghost use Rattle.segment_postings.specs.declared.posting.Counts.{Counts};
 ghost use Rattle.segment_postings.specs.Numbered.{Numbered, IsNumbered, IsLive, numbers, doc_at, sort_value};
 ghost use Rattle.segment_postings.specs.Postings.{postings_of};
+ghost use Rattle.segment_postings.specs.Spans.{takes, numbers_within};
 ghost use Rattle.segment_postings.specs.Terms.{AreTerms, terms_from, raised};
 
 use crate::posting::{Counts, Posting};
+use crate::span::Span;
 use doc_model::Doc;
 use doc_sets::{DocNo, DocSet};
 use field_schema::{FieldNo, Key, NoMemory};
@@ -17,8 +19,8 @@ use std::sync::Arc;
 
 /// What an evaluation reads of a view.
 ///
-/// No call changes the view or its terms. `postings`, `add_numbers` and `terms_from` raise the first count by one, `value`
-/// the second and `stored` the third, also where memory is wanting; a count at its greatest number stays.
+/// No call changes the view or its terms. `postings`, `add_numbers`, `add_numbers_within` and `terms_from` raise the first
+/// count by one, `value` the second and `stored` the third, also where memory is wanting; a count at its greatest number stays.
 pub trait Reads {
     /// The view that is read.
     ghost view: { Self → Numbered };
@@ -64,6 +66,25 @@ pub trait Reads {
     ) -> Result<(), NoMemory>
         ensures numbers { OnOk result (found.new.items ≡ found.old.items
             ++ map (λ p. p.doc) (postings_of (view self.old) field key.now)) }
+        ensures view { view self.new ≡ view self.old }
+        ensures terms { terms self.new ≡ terms self.old }
+        ensures postings_count { (counted self.new).postings ≡ raised (counted self.old).postings }
+        ensures values_count { (counted self.new).values ≡ (counted self.old).values }
+        ensures stored_count { (counted self.new).stored ≡ (counted self.old).stored };
+
+    /// Adds the numbers of the live documents that have a key in a field that a span takes, behind others. They come in any
+    /// order, and one may come more than once. Fails only for want of memory.
+    ///
+    /// It costs for each segment the logarithm of the number of the field's keys, and a step for each place of the keys that
+    /// the span takes. No key is copied.
+    fn add_numbers_within(
+        &mut self,
+        found: &mut Vec<DocNo>,
+        field: FieldNo,
+        span: &Span,
+    ) -> Result<(), NoMemory>
+        ensures numbers { OnOk result (set.from_list found.new.items ≡ set.union (set.from_list found.old.items)
+            (numbers_within (view self.old) field (takes span.now))) }
         ensures view { view self.new ≡ view self.old }
         ensures terms { terms self.new ≡ terms self.old }
         ensures postings_count { (counted self.new).postings ≡ raised (counted self.old).postings }

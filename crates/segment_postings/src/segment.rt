@@ -1,10 +1,12 @@
 //! Segments.
 ghost use Rattle.std.specs.Prelude.{◌≡◌, ℕ, ◌+◌, ◌<◌, ◌≤◌, ◌++◌, [], IfOk, OnOk, All, not, map, filter, fold, take, length};
 ghost use Rattle.std.specs.Arc.{arc_value};
+ghost use Rattle.std.specs.FinSet as set;
 ghost use Rattle.field_schema.specs.Values.{values_at};
 ghost use Rattle.doc_sets.specs.declared.TheConstants.{MAX_DOCS};
 ghost use Rattle.segment_postings.specs.Postings.{postings_among};
 ghost use Rattle.segment_postings.specs.Segments.{IsPart, AreIndexes, field_at, with_key};
+ghost use Rattle.segment_postings.specs.Spans.{takes, numbers_among};
 ghost use Rattle.segment_postings.specs.Terms.{Ascending, is_before, put_key};
 ghost use Rattle.segment_postings.specs.Groups.{EndsBefore};
 ghost use Rattle.segment_postings.specs.Views.{live_from};
@@ -16,6 +18,7 @@ use crate::occurrence::{Place, index};
 use crate::packing::add_live;
 use crate::posting::Posting;
 use crate::renumbering::moves;
+use crate::span::Span;
 use doc_model::Doc;
 use doc_sets::{DocNo, DocSet, MAX_DOCS};
 use field_schema::{FieldNo, Key, NoMemory};
@@ -140,6 +143,26 @@ impl Segment {
         Ok(())
     }
 
+    /// Adds the numbers of the live documents with a key that a span takes, of which the first document has the number `base`.
+    ///
+    /// It costs the logarithm of the number of the field's keys, and the places of those that the span takes.
+    pub fn add_numbers_within(
+        &self,
+        found: &mut Vec<DocNo>,
+        live: &DocSet,
+        base: DocNo,
+        field: FieldNo,
+        span: &Span,
+    ) -> Result<(), NoMemory>
+        requires { base + length self.now.docs ≤ MAX_DOCS }
+        ensures { OnOk result (set.from_list found.new.items ≡ set.union (set.from_list found.old.items)
+            (numbers_among live.now base field (takes span.now) self.now.docs)) }
+    {
+        let places = places_within(self.fields.as_slice(), field, span);
+        add_numbers(found, live, base, places)?;
+        Ok(())
+    }
+
     /// Puts the field's keys at or after a key among ascending ones, and keeps the first `most` of all.
     ///
     /// It costs the logarithm of the number of the field's keys, and those that come among the first.
@@ -174,6 +197,16 @@ fn places_in<'a>(fields: &'a [Laid], field: FieldNo, key: &Key) -> &'a [Place]
 {
     match fields.get(field as usize) {
         Some(laid) => laid.places(key),
+        None => &[],
+    }
+}
+
+// The places of the keys in a field that a span takes, none past the last field.
+fn places_within<'a>(fields: &'a [Laid], field: FieldNo, span: &Span) -> &'a [Place]
+    ensures { result.now ≡ map (λ o. o.place) (filter (λ o. takes span.now o.key) (field_at fields.now field)) }
+{
+    match fields.get(field as usize) {
+        Some(laid) => laid.places_within(span),
         None => &[],
     }
 }

@@ -6,12 +6,14 @@ ghost use Rattle.doc_sets.specs.declared.TheConstants.{MAX_DOCS};
 ghost use Rattle.segment_postings.specs.Numbered.{IsNumbered, IsLive, no_docs, numbers, docs, extended, doc_at};
 ghost use Rattle.segment_postings.specs.Postings.{postings_of};
 ghost use Rattle.segment_postings.specs.Segments.{IsPart};
+ghost use Rattle.segment_postings.specs.Spans.{takes, numbers_within};
 ghost use Rattle.segment_postings.specs.Terms.{AreTerms, terms_from};
 ghost use Rattle.segment_postings.specs.Views.{terms_of, all_docs, AddsNumbers, AddsPart, Merges, Packs, IsPacked};
 
 use crate::packing::{Packing, moved};
 use crate::posting::Posting;
 use crate::segment::Segment;
+use crate::span::Span;
 use doc_model::Doc;
 use doc_sets::{DocNo, DocSet, MAX_DOCS};
 use field_schema::{FieldNo, Key, NoMemory};
@@ -179,6 +181,26 @@ impl View {
         let parts = self.parts.as_slice();
         for part in parts {
             part.add_numbers(found, live, base, field, key)?;
+            base += part.docs().len() as u32;
+        }
+        Ok(())
+    }
+
+    // Adds the numbers of the live documents with a key in a field that a span takes.
+    pub(crate) fn add_numbers_within(
+        &self,
+        found: &mut Vec<DocNo>,
+        field: FieldNo,
+        span: &Span,
+    ) -> Result<(), NoMemory>
+        ensures { OnOk result (set.from_list found.new.items ≡ set.union (set.from_list found.old.items)
+            (numbers_within self.now.seen field (takes span.now))) }
+    {
+        let live: &DocSet = &self.live;
+        let mut base = 0;
+        let parts = self.parts.as_slice();
+        for part in parts {
+            part.add_numbers_within(found, live, base, field, span)?;
             base += part.docs().len() as u32;
         }
         Ok(())

@@ -44,7 +44,7 @@ nested-returns-in_ok-gone-in-Bool-clause-found g t c =
     elim c.if-is_empty.branch [
       | nested-then-is_empty+in_ok-parts-in-Bool+in_ok-found-in-Bool w ↦
           IfOk-weaker c.without.result _ _
-          (λ s e. found_should v c.args.query.now c.in-Bool.must c.in-Bool.should c.in-Bool.not c.in-Bool.is c.requires.numbered
+          (λ s e. found_should v c.args.query.now c.in-Bool.must c.in-Bool.should c.in-Bool.not c.in-Bool.is c.requires
           (told_empty _ _ _ _ c.as_slice.ensures c.is_empty.ensures w.if-is_empty.true)
           w.in_ok-parts-in-Bool.field-0.items c.in_ok-parts-in-Bool-2.field-0.items w.in_ok-found-in-Bool.found gone s
           (w.in_ok-parts-in-Bool.ensures.found ∙ ap (map (λ r. part r v)) w.as_slice-then-is_empty.ensures)
@@ -56,7 +56,7 @@ nested-returns-in_ok-gone-in-Bool-clause-found g t c =
           c.without.ensures
       | nested-else-is_empty+in_ok-all-in-Bool+in_ok-found-in-Bool-2 w ↦
           IfOk-weaker c.without.result _ _
-          (λ s e. found_must v c.args.query.now c.in-Bool.must c.in-Bool.should c.in-Bool.not c.in-Bool.is c.requires.numbered
+          (λ s e. found_must v c.args.query.now c.in-Bool.must c.in-Bool.should c.in-Bool.not c.in-Bool.is c.requires
           (told_empty _ _ _ _ c.as_slice.ensures c.is_empty.ensures w.if-is_empty.false)
           w.as_slice-else-is_empty-2.result.now c.in_ok-parts-in-Bool-2.field-0.items w.in_ok-found-in-Bool-2.found gone s
           (w.as_slice-else-is_empty-2.ensures.value ∙ w.in_ok-all-in-Bool.ensures.found ∙ ap (map (λ r. part r v)) w.as_slice-else-is_empty.ensures)

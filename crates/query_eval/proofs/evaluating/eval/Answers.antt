@@ -6,13 +6,13 @@ use Rattle.query_eval.proofs.Steps.{found_others}
 use Rattle.query_eval.proofs.evaluating.eval.Goals as goal
 
 pub parts-requires : goal.parts-requires
-parts-requires g c = record { numbered = c.live-live.ensures.numbered; terms = c.live-live.ensures.terms }
+parts-requires g c = c.live-live.ensures.numbered
 
 pub nested-requires : goal.nested-requires
-nested-requires g c = record { numbered = c.live-live.ensures.numbered; terms = c.live-live.ensures.terms }
+nested-requires g c = c.live-live.ensures.numbered
 
 pub nested-requires-in_default : goal.nested-requires-in_default
-nested-requires-in_default g c = record { numbered = c.live-live.ensures.numbered; terms = c.live-live.ensures.terms }
+nested-requires-in_default g c = c.live-live.ensures.numbered
 
 pub returns-in_ok-gone-in-Bool-clause-found : goal.returns-in_ok-gone-in-Bool-clause-found
 returns-in_ok-gone-in-Bool-clause-found g c =

@@ -19,11 +19,11 @@ loop-i-init g c = (
 
 pub followed-requires-clause-held_rise : goal.followed-requires-clause-held_rise
 followed-requires-clause-held_rise g c =
-    held_rise (g.P.Reads.view c.args.probe.now) c.args.field c.args.words.now c.loop-i.i c.as_slice.result.now c.requires.numbered (c.as_slice.ensures.value ∙ c.loop-i.invariant.0)
+    held_rise (g.P.Reads.view c.args.probe.now) c.args.field c.args.words.now c.loop-i.i c.as_slice.result.now c.requires (c.as_slice.ensures.value ∙ c.loop-i.invariant.0)
 
 pub followed-requires-clause-next_rise : goal.followed-requires-clause-next_rise
 followed-requires-clause-next_rise g c =
-    postings_rise (g.P.Reads.view c.args.probe.now) c.args.field (key.Token c.index-others-i.result) c.as_slice-in-loop-i.result.now c.requires.numbered
+    postings_rise (g.P.Reads.view c.args.probe.now) c.args.field (key.Token c.index-others-i.result) c.as_slice-in-loop-i.result.now c.requires
     (c.as_slice-in-loop-i.ensures.value ∙ c.in_ok-next.ensures.found ∙ ap (λ (v : Numbered). postings_of v c.args.field (key.Token c.index-others-i.result)) c.loop-i.invariant.1.view)
 
 pub followed-requires-clause-held_places : goal.followed-requires-clause-held_places
@@ -39,7 +39,7 @@ pub loop-i-preserved : goal.loop-i-preserved
 loop-i-preserved g c =
     let within : c.loop-i.i < length c.in-Some.others.now = omega arith in (
       next_word (g.P.Reads.view c.args.probe.now) c.args.field c.args.words.now c.in-Some.first.now c.in-Some.others.now c.loop-i.i c.index-others-i.result
-          c.as_slice.result.now c.as_slice-in-loop-i.result.now c.in_ok-held-2.held.items c.requires.numbered c.in-Some.ensures.cases.0 within c.index-others-i.is
+          c.as_slice.result.now c.as_slice-in-loop-i.result.now c.in_ok-held-2.held.items c.requires c.in-Some.ensures.cases.0 within c.index-others-i.is
           (c.as_slice.ensures.value ∙ c.loop-i.invariant.0)
           (c.as_slice-in-loop-i.ensures.value ∙ c.in_ok-next.ensures.found ∙ ap (λ (v : Numbered). postings_of v c.args.field (key.Token c.index-others-i.result)) c.loop-i.invariant.1.view)
           c.in_ok-held-2.ensures,
@@ -50,14 +50,14 @@ pub from_sorted-requires-clause-rising : goal.from_sorted-requires-clause-rising
 from_sorted-requires-clause-rising g c =
     let v = g.P.Reads.view c.args.probe.now in
     let whole : length c.in-Some.others.now ≤ c.loop-i.i = omega arith in
-    increasing_where (says_words c.args.field c.args.words.now) v c.requires.numbered c.as_slice-3.result.now
+    increasing_where (says_words c.args.field c.args.words.now) v c.requires c.as_slice-3.result.now
     (c.as_slice-3.ensures.value ∙ last_word v c.args.field c.args.words.now c.in-Some.first.now c.in-Some.others.now c.loop-i.i c.as_slice-2.result.now c.in_ok-numbers.numbers.items c.in-Some.ensures.cases.0 whole (c.as_slice-2.ensures.value ∙ c.loop-i.invariant.0) c.in_ok-numbers.ensures)
 
 pub from_sorted-requires-clause-documents : goal.from_sorted-requires-clause-documents
 from_sorted-requires-clause-documents g c =
     let v = g.P.Reads.view c.args.probe.now in
     let whole : length c.in-Some.others.now ≤ c.loop-i.i = omega arith in
-    documents_where (says_words c.args.field c.args.words.now) v c.requires.numbered c.as_slice-3.result.now
+    documents_where (says_words c.args.field c.args.words.now) v c.requires c.as_slice-3.result.now
     (c.as_slice-3.ensures.value ∙ last_word v c.args.field c.args.words.now c.in-Some.first.now c.in-Some.others.now c.loop-i.i c.as_slice-2.result.now c.in_ok-numbers.numbers.items c.in-Some.ensures.cases.0 whole (c.as_slice-2.ensures.value ∙ c.loop-i.invariant.0) c.in_ok-numbers.ensures)
 
 pub returns-clause-found : goal.returns-clause-found
@@ -65,5 +65,5 @@ returns-clause-found g c =
     let v = g.P.Reads.view c.args.probe.now in
     let whole : length c.in-Some.others.now ≤ c.loop-i.i = omega arith in
     c.in-Ok.ensures
-    ∙ set_where (says_words c.args.field c.args.words.now) v c.requires.numbered c.as_slice-3.result.now
+    ∙ set_where (says_words c.args.field c.args.words.now) v c.requires c.as_slice-3.result.now
     (c.as_slice-3.ensures.value ∙ last_word v c.args.field c.args.words.now c.in-Some.first.now c.in-Some.others.now c.loop-i.i c.as_slice-2.result.now c.in_ok-numbers.numbers.items c.in-Some.ensures.cases.0 whole (c.as_slice-2.ensures.value ∙ c.loop-i.invariant.0) c.in_ok-numbers.ensures)

@@ -1,11 +1,11 @@
--- Spans of keys: before the first key they take none, and none behind a key that is past.
-use Rattle.std.proofs.Common.{◌≡◌, ℕ, ◌<◌, Bool, true, false, cond, not, ◌&&◌, ◌||◌, List, [], ◌∷◌, refl, sym, ap, ◌∙◌, nat_eq, inl, inr}
+-- Spans of keys: what stands before one, what it takes, and what stands behind, one after another.
+use Rattle.std.proofs.Common.{◌≡◌, ℕ, ◌<◌, Bool, true, false, cond, ◌&&◌, ◌||◌, List, [], ◌∷◌, refl, sym, ap, ◌∙◌, nat_eq, inl, inr}
 use Rattle.std.specs.Ordering.{nat_cmp, ordering_reverse, ordering_then, is_lt, is_gt, is_eq}
 use Rattle.std.specs.Cmp.{nat_cmp_total}
 use Rattle.std.specs.declared.cmp.Ordering.{Ordering}
 use Rattle.std.specs.declared.cmp.Ordering.TheVariants.{Less, Equal, Greater}
 use Rattle.std.specs.List.{starts_with}
-use Rattle.std.proofs.lemmas.Bool.{false≢true, true≢false, and_parts, lt-ltb, eqb-true, eq-eqb, cases_order, cases_Bool, not_from_true}
+use Rattle.std.proofs.lemmas.Bool.{false≢true, true≢false, and_parts, and_from, lt-ltb, eqb-true, eq-eqb, cases_order, cases_Bool, not-false, not_from_true, not_from_false}
 use Rattle.std.proofs.lemmas.Cmp.{upto, tied_itself}
 use Rattle.field_schema.specs.declared.key.Key.{Key}
 use Rattle.field_schema.specs.declared.key.Key.TheVariants as key
@@ -15,11 +15,10 @@ use Rattle.field_schema.specs.Laws.{key_cmp_total}
 use Rattle.query_tree.specs.declared.query.End.{End}
 use Rattle.query_tree.specs.declared.query.End.TheVariants as end
 use Rattle.query_tree.specs.Matches.{is_above, is_below}
+use Rattle.segment_postings.specs.declared.span.Span.{Span}
+use Rattle.segment_postings.specs.declared.span.Span.TheVariants.{Between, Strings, Tokens}
+use Rattle.segment_postings.specs.Spans.{takes, begins_behind}
 use Rattle.segment_postings.specs.Terms.{is_before}
-use Rattle.query_eval.specs.declared.span.Span.{Span}
-use Rattle.query_eval.specs.declared.span.Span.TheVariants.{Between, Strings, Tokens}
-use Rattle.query_eval.specs.Spans.{takes, is_past, first_from, first_of}
-use Rattle.query_eval.proofs.Verdicts.{or_false}
 
 -- ---- the order of keys
 
@@ -32,10 +31,14 @@ before_gt : (x y : Key) → is_before y x ≡ is_gt (key_cmp x y)
 before_gt x y = ap is_lt (key_cmp_total.antisymm y x) ∙ lt_reverse (key_cmp x y)
 
 -- x is at most y, and y at most z
-pub at_most : (x y z : Key) → is_before y x ≡ false → is_before z y ≡ false → is_before z x ≡ false
+at_most : (x y z : Key) → is_before y x ≡ false → is_before z y ≡ false → is_before z x ≡ false
 at_most x y z h k = before_gt x z ∙ upto key_cmp_total x y z (sym (before_gt x y) ∙ h) (sym (before_gt y z) ∙ k)
 
 -- ---- ends
+
+or_false : (b : Bool) → (b || false) ≡ b
+or_false true = refl
+or_false false = refl
 
 not_gt : (r : Ordering) (inclusive : Bool) → (is_lt r || (inclusive && is_eq r)) ≡ true → is_gt r ≡ false
 not_gt Less inclusive h = refl
@@ -48,18 +51,6 @@ le_from_not_gt Less h = refl
 le_from_not_gt Equal h = refl
 le_from_not_gt Greater h = absurd (true≢false h)
 
--- the least key stands before none
-least : (x : Key) → is_before x (key.Str []) ≡ false
-least (key.Str []) = refl
-least (key.Str (c ∷ cs)) = refl
-least (key.Long n) = refl
-least (key.Bool b) = refl
-least (key.Token t) = refl
-
-first_above : (low : End) (x : Key) → is_above low x ≡ true → is_before x (first_from low) ≡ false
-first_above end.Open x h = least x
-first_above (end.At a inclusive) x h = before_gt a x ∙ not_gt (key_cmp a x) inclusive h
-
 -- what is below an end is so with all that is at most it
 below_down : (high : End) (k x : Key) → is_before x k ≡ false → is_below high x ≡ true → is_below high k ≡ true
 below_down end.Open k x h e = refl
@@ -69,6 +60,17 @@ below_down (end.At b false) k x h e =
     elim (cases_Bool (is_before k b)) [
       | inl less ↦ or_false (is_before k b) ∙ less
       | inr more ↦ absurd (false≢true (sym (at_most b k x more h) ∙ sym (or_false (is_before x b)) ∙ e))
+    ]
+
+-- and what is above an end, with all that is at least it
+above_up : (low : End) (k x : Key) → is_before x k ≡ false → is_above low k ≡ true → is_above low x ≡ true
+above_up end.Open k x h e = refl
+above_up (end.At a true) k x h e =
+    le_from_not_gt (key_cmp a x) (upto key_cmp_total a k x (not_gt (key_cmp a k) true e) (sym (before_gt k x) ∙ h))
+above_up (end.At a false) k x h e =
+    elim (cases_Bool (is_before a x)) [
+      | inl less ↦ or_false (is_before a x) ∙ less
+      | inr more ↦ absurd (false≢true (sym (at_most k x a h more) ∙ sym (or_false (is_before a k)) ∙ e))
     ]
 
 -- ---- texts that begin with one
@@ -112,19 +114,6 @@ between_starts (a ∷ p) (b ∷ u) (c ∷ t) low high h =
       | inr (inr m) ↦ absurd (true≢false (sym (ap (λ r. is_lt (ordering_then r (bytes_cmp u p))) (less b a m)) ∙ low))
     ]
 
--- ---- spans
-
-pub first_first : (s : Span) (x : Key) → takes s x ≡ true → is_before x (first_of s) ≡ false
-first_first (Between low high) x h = first_above low.now x (and_parts (is_above low.now x) (is_below high.now x) h).0
-first_first (Strings p) (key.Str t) h = starts_not_before p.now t h
-first_first (Strings p) (key.Long n) h = absurd (false≢true h)
-first_first (Strings p) (key.Bool b) h = absurd (false≢true h)
-first_first (Strings p) (key.Token t) h = absurd (false≢true h)
-first_first (Tokens p) (key.Str t) h = absurd (false≢true h)
-first_first (Tokens p) (key.Long n) h = absurd (false≢true h)
-first_first (Tokens p) (key.Bool b) h = absurd (false≢true h)
-first_first (Tokens p) (key.Token t) h = starts_not_before p.now t h
-
 -- what begins with p behind a key from p on, that key begins with p too
 past_strings : (p : List ℕ) (k : Key) (t : List ℕ) → is_before k (key.Str p) ≡ false → is_before (key.Str t) k ≡ false → starts_with nat_eq t p ≡ true → (u : List ℕ) × (k ≡ key.Str u) × (starts_with nat_eq u p ≡ true)
 past_strings p (key.Str u) t low high h = (u, refl, between_starts p u t low high h)
@@ -138,25 +127,55 @@ past_tokens p (key.Long n) t low high h = absurd (true≢false low)
 past_tokens p (key.Bool b) t low high h = absurd (true≢false low)
 past_tokens p (key.Token u) t low high h = (u, refl, between_starts p u t low high h)
 
-taken_down : (s : Span) (k x : Key) → is_before k (first_of s) ≡ false → is_before x k ≡ false → takes s x ≡ true → is_past s k ≡ false
-taken_down (Between low high) k x f h e =
-    not_from_true (is_below high.now k) (below_down high.now k x h (and_parts (is_above low.now x) (is_below high.now x) e).1)
-taken_down (Strings p) k (key.Str t) f h e =
-    let down = past_strings p.now k t f h e in
-    ap (λ y. not (takes (Strings p) y)) down.1 ∙ not_from_true (starts_with nat_eq down.0 p.now) down.2
-taken_down (Strings p) k (key.Long n) f h e = absurd (false≢true e)
-taken_down (Strings p) k (key.Bool b) f h e = absurd (false≢true e)
-taken_down (Strings p) k (key.Token t) f h e = absurd (false≢true e)
-taken_down (Tokens p) k (key.Str t) f h e = absurd (false≢true e)
-taken_down (Tokens p) k (key.Long n) f h e = absurd (false≢true e)
-taken_down (Tokens p) k (key.Bool b) f h e = absurd (false≢true e)
-taken_down (Tokens p) k (key.Token t) f h e =
-    let down = past_tokens p.now k t f h e in
-    ap (λ y. not (takes (Tokens p) y)) down.1 ∙ not_from_true (starts_with nat_eq down.0 p.now) down.2
+-- ---- spans
 
--- behind a key that is past, a span takes none
-pub past_none : (s : Span) (k x : Key) → is_before k (first_of s) ≡ false → is_past s k ≡ true → is_before x k ≡ false → takes s x ≡ false
-past_none s k x f past h = elim (cases_Bool (takes s x)) [
-  | inl e ↦ absurd (true≢false (sym past ∙ taken_down s k x f h e))
-  | inr e ↦ e
+-- x is at most y, and y stands before a key
+before_down : (k x y : Key) → is_before y x ≡ false → is_before y k ≡ true → is_before x k ≡ true
+before_down k x y h e = elim (cases_Bool (is_before x k)) [
+  | inl t ↦ t
+  | inr f ↦ absurd (true≢false (sym e ∙ at_most k x y f h))
+]
+
+-- what is at most a key before a span stands before it
+pub behind_down : (s : Span) (x y : Key) → is_before y x ≡ false → begins_behind s y ≡ true → begins_behind s x ≡ true
+behind_down (Between low high) x y h e = elim (cases_Bool (is_above low.now x)) [
+  | inl t ↦ absurd (false≢true (sym (not_from_true (is_above low.now y) (above_up low.now x y h t)) ∙ e))
+  | inr f ↦ not_from_false (is_above low.now x) f
+]
+behind_down (Strings p) x y h e = before_down (key.Str p.now) x y h e
+behind_down (Tokens p) x y h e = before_down (key.Token p.now) x y h e
+
+-- of keys that do not stand before a span, those at most one that it takes are taken
+pub takes_down : (s : Span) (x y : Key) → is_before y x ≡ false → begins_behind s x ≡ false → takes s y ≡ true → takes s x ≡ true
+takes_down (Between low high) x y h f e =
+    and_from (is_above low.now x) (is_below high.now x) (not-false (is_above low.now x) f) (below_down high.now x y h (and_parts (is_above low.now y) (is_below high.now y) e).1)
+takes_down (Strings p) x (key.Str t) h f e =
+    let down = past_strings p.now x t f h e in
+    ap (takes (Strings p)) down.1 ∙ down.2
+takes_down (Strings p) x (key.Long n) h f e = absurd (false≢true e)
+takes_down (Strings p) x (key.Bool b) h f e = absurd (false≢true e)
+takes_down (Strings p) x (key.Token t) h f e = absurd (false≢true e)
+takes_down (Tokens p) x (key.Str t) h f e = absurd (false≢true e)
+takes_down (Tokens p) x (key.Long n) h f e = absurd (false≢true e)
+takes_down (Tokens p) x (key.Bool b) h f e = absurd (false≢true e)
+takes_down (Tokens p) x (key.Token t) h f e =
+    let down = past_tokens p.now x t f h e in
+    ap (takes (Tokens p)) down.1 ∙ down.2
+
+-- a span does not take what stands before it
+taken_from : (s : Span) (x : Key) → takes s x ≡ true → begins_behind s x ≡ false
+taken_from (Between low high) x e = not_from_true (is_above low.now x) (and_parts (is_above low.now x) (is_below high.now x) e).0
+taken_from (Strings p) (key.Str t) e = starts_not_before p.now t e
+taken_from (Strings p) (key.Long n) e = absurd (false≢true e)
+taken_from (Strings p) (key.Bool b) e = absurd (false≢true e)
+taken_from (Strings p) (key.Token t) e = absurd (false≢true e)
+taken_from (Tokens p) (key.Str t) e = absurd (false≢true e)
+taken_from (Tokens p) (key.Long n) e = absurd (false≢true e)
+taken_from (Tokens p) (key.Bool b) e = absurd (false≢true e)
+taken_from (Tokens p) (key.Token t) e = starts_not_before p.now t e
+
+pub none_before : (s : Span) (x : Key) → begins_behind s x ≡ true → takes s x ≡ false
+none_before s x e = elim (cases_Bool (takes s x)) [
+  | inl t ↦ absurd (true≢false (sym e ∙ taken_from s x t))
+  | inr f ↦ f
 ]
