@@ -1,9 +1,9 @@
 -- The steps of loops.
 use Rattle.std.proofs.Common.{◌≡◌, ℕ, zero, suc, ◌+◌, ◌<◌, ◌≤◌, Bool, true, false, ◌||◌, List, [], ◌∷◌, ◌++◌, length, get_or, take, drop, map, filter, refl, sym, ap, subst, ◌∙◌, arith}
 use Rattle.std.specs.List.{list_any, list_all}
-use Rattle.std.specs.FinSet.{union, from_list, empty, contains, contains-union, contains-empty, same_set, nat_cmp-IsAntisymmetric}
+use Rattle.std.specs.FinSet.{union, empty, contains, contains-union, contains-empty, same_set, nat_cmp-IsAntisymmetric}
 use Rattle.std.specs.Cmp.{nat_cmp_total}
-use Rattle.std.specs.Ordering.{nat_cmp, is_lt}
+use Rattle.std.specs.Ordering.{nat_cmp}
 use Rattle.std.proofs.lemmas.List.{map-append}
 use Rattle.doc_sets.proofs.Rising.{Rises-lower}
 use Rattle.std.proofs.lemmas.Bool.{or_from, and_from}

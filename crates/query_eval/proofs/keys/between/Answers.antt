@@ -1,7 +1,7 @@
-use Rattle.std.proofs.Common.{sym, subst, ◌∙◌, ◌&&◌}
+use Rattle.std.proofs.Common.{sym, subst, ◌∙◌}
 use Rattle.std.proofs.lemmas.Result.{IfOk-weaker}
 use Rattle.doc_sets.specs.Sets.{Numbers, AreDocuments}
-use Rattle.query_tree.specs.Matches.{has_key, is_above, is_below}
+use Rattle.query_tree.specs.Matches.{has_key}
 use Rattle.segment_postings.specs.Spans.{is_within}
 use Rattle.query_eval.proofs.Steps.{found_documents, found_within, from_none}
 use Rattle.query_eval.proofs.keys.between.Goals as goal
