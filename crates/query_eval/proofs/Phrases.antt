@@ -1,7 +1,11 @@
 -- Phrases: the places from which a row of words stands in turn, and the texts that have it.
-use Rattle.std.proofs.Common.{◌≡◌, ℕ, suc, ◌+◌, ◌<◌, ◌≤◌, Bool, true, false, cond, not, ◌&&◌, ◌||◌, List, [], ◌∷◌, ◌++◌, length, take, map, filter, Option, Some, None, refl, sym, ap, ◌∙◌, arith, nat_eq, subst, inl, inr}
-use Rattle.std.specs.List.{list_any, filter_map, cons_option, flat_map, enumerate_from, starts_with}
-use Rattle.std.proofs.lemmas.Bool.{and_parts, and_from, or_left, or_right, or_cases, ne_eqb, eq-eqb}
+use Rattle.std.proofs.Common.{◌≡◌, ℕ, suc, ◌+◌, ◌<◌, ◌≤◌, Bool, true, false, cond, not, ◌&&◌, ◌||◌, List, [], ◌∷◌, ◌++◌, length, take, map, filter, Some, refl, sym, ap, ◌∙◌, arith, nat_eq, subst}
+use Rattle.std.specs.List.{list_any, flat_map, enumerate_from, starts_with}
+use Rattle.std.specs.Ordering.{nat_cmp}
+use Rattle.std.specs.Cmp.{nat_cmp_total}
+use Rattle.std.specs.FinSet.{from_list, contains-from_list_nat, same_set, nat_cmp-IsAntisymmetric}
+use Rattle.std.proofs.lemmas.List.Elements.{filter-append}
+use Rattle.std.proofs.lemmas.Bool.{ne_eqb, eq-eqb}
 use Rattle.std.proofs.lemmas.List.Folds.{list_any-append}
 use Rattle.field_schema.specs.declared.key.Key.{Key}
 use Rattle.field_schema.specs.declared.key.Key.TheVariants as key
@@ -14,13 +18,15 @@ use Rattle.doc_sets.specs.Sets.{Rises}
 use Rattle.doc_sets.proofs.Rising.{Rises-lower}
 use Rattle.query_tree.specs.KeysOfDocs.{keys_of_value}
 use Rattle.query_tree.specs.Matches.{stand_in, has_words, is_empty}
-use Rattle.segment_postings.specs.declared.posting.Posting.{Posting}
-use Rattle.segment_postings.specs.Postings.{indices_of, places_in, has_key_at, posting_of}
+use Rattle.segment_postings.specs.declared.posting.Position.{Position}
+use Rattle.segment_postings.specs.Numbered.{Numbered}
+use Rattle.segment_postings.specs.Positions.{position, positions_in}
+use Rattle.segment_postings.specs.Postings.{indices_of, places_in, has_key_at}
 use Rattle.segment_postings.proofs.PostingsGathered.{any_place}
-use Rattle.query_eval.specs.Found.{numbers_where}
-use Rattle.query_eval.specs.Runs.{same_place, is_place, is_place_in, followed_by, filled_numbers}
-use Rattle.query_eval.proofs.Verdicts.{and_false, or_false, doc_of, verdict, passes, absent, settle}
-use Rattle.query_eval.proofs.Ascents.{same_tests}
+use Rattle.segment_postings.proofs.SegmentLaws.{filter-map}
+use Rattle.query_eval.specs.Found.{found}
+use Rattle.query_eval.specs.Runs.{is_position, same_position, moved_on}
+use Rattle.query_eval.proofs.Verdicts.{and_true, and_false, or_false, doc_of, verdict, passes, absent, settle, contains_found}
 
 any_filter : {A : Type 0} (p q : A → Bool) (xs : List A) → list_any p (filter q xs) ≡ list_any (λ x. q x && p x) xs
 any_filter p q [] = refl
@@ -28,6 +34,14 @@ any_filter p q (x ∷ xs) = elim (q x) as (λ b. list_any p (cond b (x ∷ filte
   | true ↦ ap (λ b. p x || b) (any_filter p q xs)
   | false ↦ any_filter p q xs
 ]
+
+-- the two places are one
+abbrev pub same_place : ℕ × ℕ → ℕ × ℕ → Bool
+same_place p q = nat_eq q.0 p.0 && nat_eq q.1 p.1
+
+-- the place is among those
+abbrev pub is_place : ℕ × ℕ → List (ℕ × ℕ) → Bool
+is_place p places = list_any (same_place p) places
 
 -- the words stand in turn from a place on
 abbrev pub follow : List Key → List (List ℕ) → ℕ × ℕ → Bool
@@ -38,16 +52,15 @@ follow values (w ∷ ws) p = is_place p (places_in (key.Token w) values) && foll
 abbrev pub starts_of : List Key → List ℕ → List (List ℕ) → List (ℕ × ℕ)
 starts_of values w ws = filter (λ p. follow values ws (p.0, p.1 + 1)) (places_in (key.Token w) values)
 
--- what is told of a document with the first word
-abbrev pub run_of : ℕ → List ℕ → List (List ℕ) → ℕ × Document → Option Posting
-run_of field w ws e =
-    cond (has_key_at field (key.Token w) e.1) (Some (record { doc = e.0; places = starts_of (values_at e.1.values field) w ws })) None
+-- those positions in a document
+abbrev pub run_of : ℕ → List ℕ → List (List ℕ) → ℕ × Document → List Position
+run_of field w ws e = map (position e.0) (starts_of (values_at e.1.values field) w ws)
 
-abbrev pub runs : ℕ → List ℕ → List (List ℕ) → List (ℕ × Document) → List Posting
-runs field w ws list = filter_map (run_of field w ws) list
+abbrev pub runs : ℕ → List ℕ → List (List ℕ) → List (ℕ × Document) → List Position
+runs field w ws list = flat_map (run_of field w ws) list
 
 -- the same for a row of words, of the first and as many others
-abbrev pub runs_upto : ℕ → List (List ℕ) → ℕ → List (ℕ × Document) → List Posting
+abbrev pub runs_upto : ℕ → List (List ℕ) → ℕ → List (ℕ × Document) → List Position
 runs_upto field [] i list = []
 runs_upto field (w ∷ ws) i list = runs field w (take i ws) list
 
@@ -69,13 +82,6 @@ any_enumerated : {A : Type 0} (f g : ℕ × A → Bool) (b : ℕ) (xs : List A) 
 any_enumerated f g b [] same = refl
 any_enumerated f g b (x ∷ xs) same =
     (λ i. same b x (omega arith) i || any_enumerated f g (b + 1) xs (λ n y h. same n y (omega arith)) i)
-
-nonempty : {A : Type 0} (p : A → Bool) (xs : List A) → not (is_empty (filter p xs)) ≡ list_any p xs
-nonempty p [] = refl
-nonempty p (x ∷ xs) = elim (p x) as (λ b. not (is_empty (cond b (x ∷ filter p xs) (filter p xs))) ≡ (b || list_any p xs)) [
-  | true ↦ refl
-  | false ↦ nonempty p xs
-]
 
 pulled : {A : Type 0} (b : Bool) (p q : A → Bool) (xs : List A) → list_any (λ x. p x && (b && q x)) xs ≡ (b && list_any (λ x. q x && p x) xs)
 pulled true p q [] = refl
@@ -134,26 +140,6 @@ module _ (k : Key) where
       any_map q (λ j. (n, j)) (indices_of k (keys_of_value v))
       ∙ any_map (λ j. q (n, j)) (λ c. c.0) (filter (λ c. key_eq k c.1) (enumerate_from 0 (keys_of_value v)))
       ∙ any_filter (λ c. q (n, c.0)) (λ c. key_eq k c.1) (enumerate_from 0 (keys_of_value v)))
-
-  has_some : (q : ℕ → Bool) (b : ℕ) (ks : List Key) → list_any (λ c. key_eq k c.1 && q c.0) (enumerate_from b ks) ≡ true → list_any (key_eq k) ks ≡ true
-  has_some q b [] h = h
-  has_some q b (x ∷ xs) h = elim (or_cases (key_eq k x && q b) (list_any (λ c. key_eq k c.1 && q c.0) (enumerate_from (b + 1) xs)) h) [
-    | inl e ↦ or_left (key_eq k x) (list_any (key_eq k) xs) (and_parts (key_eq k x) (q b) e).0
-    | inr e ↦ or_right (key_eq k x) (list_any (key_eq k) xs) (has_some q (b + 1) xs e)
-  ]
-
-  have_some : (q : ℕ × ℕ → Bool) (b : ℕ) (values : List Key) → list_any (λ e. list_any (λ c. key_eq k c.1 && q (e.0, c.0)) (enumerate_from 0 (keys_of_value e.1))) (enumerate_from b values) ≡ true → list_any (λ v. list_any (key_eq k) (keys_of_value v)) values ≡ true
-  have_some q b [] h = h
-  have_some q b (v ∷ vs) h = elim (or_cases _ (list_any (λ e. list_any (λ c. key_eq k c.1 && q (e.0, c.0)) (enumerate_from 0 (keys_of_value e.1))) (enumerate_from (b + 1) vs)) h) [
-    | inl e ↦ or_left (list_any (key_eq k) (keys_of_value v)) (list_any (λ v. list_any (key_eq k) (keys_of_value v)) vs) (has_some (λ j. q (b, j)) 0 (keys_of_value v) e)
-    | inr e ↦ or_right (list_any (key_eq k) (keys_of_value v)) (list_any (λ v. list_any (key_eq k) (keys_of_value v)) vs) (have_some q (b + 1) vs e)
-  ]
-
-  -- a document with a place of the key has the key
-  pub place_has_key : (q : ℕ × ℕ → Bool) (field : ℕ) (d : Document) → list_any q (places_in k (values_at d.values field)) ≡ true → has_key_at field k d ≡ true
-  place_has_key q field d h =
-      any_flat (key_eq k) keys_of_value (values_at d.values field)
-      ∙ have_some q 0 (values_at d.values field) (sym (places_pass q 0 (values_at d.values field)) ∙ h)
 
 -- the key's place in a list of keys numbered from b on
 abbrev stands_at : ℕ → List Key → List ℕ → ℕ → Bool
@@ -222,34 +208,38 @@ some_start values w ws =
     ∙ in_value w ws e.1)
     ∙ any_second (has_words (w ∷ ws)) 0 values
 
--- ---- the rows of postings
+-- ---- the rows of positions
 
-pub runs_none : (field : ℕ) (w : List ℕ) (list : List (ℕ × Document)) → filter_map (posting_of field (key.Token w)) list ≡ runs field w [] list
+pub runs_none : (field : ℕ) (w : List ℕ) (list : List (ℕ × Document)) → flat_map (positions_in field (key.Token w)) list ≡ runs field w [] list
 runs_none field w [] = refl
 runs_none field w (e ∷ es) =
-    (λ i. cons_option (cond (has_key_at field (key.Token w) e.1) (Some (record { doc = e.0; places = sym (all_kept (places_in (key.Token w) (values_at e.1.values field))) i })) None) (runs_none field w es i))
+    (λ i. map (position e.0) (sym (all_kept (places_in (key.Token w) (values_at e.1.values field))) i) ++ runs_none field w es i)
   where
     all_kept : (ps : List (ℕ × ℕ)) → filter (λ p. true) ps ≡ ps
     all_kept [] = refl
     all_kept (p ∷ ps) = ap (λ xs. p ∷ xs) (all_kept ps)
 
--- a place among a document's postings of a word
-place_there : (field : ℕ) (x : List ℕ) (low high : ℕ) (whole : List (ℕ × Document)) (e : ℕ × Document) (p : ℕ × ℕ) → Rises low high (map (λ e. e.0) whole) → doc_of whole e.0 ≡ Some e.1 → is_place_in (filter_map (posting_of field (key.Token x)) whole) e.0 p ≡ is_place p (places_in (key.Token x) (values_at e.1.values field))
+shared : (c x y : Bool) → ((c && x) || (c && y)) ≡ (c && (x || y))
+shared true x y = refl
+shared false x y = refl
+
+-- a place among the positions in one document
+place_in_one : (n m : ℕ) (p : ℕ × ℕ) (qs : List (ℕ × ℕ)) → is_position (position n p) (map (position m) qs) ≡ (nat_eq m n && is_place p qs)
+place_in_one n m p [] = sym (and_false (nat_eq m n))
+place_in_one n m p (q ∷ qs) = ap (λ b. (nat_eq m n && same_place p q) || b) (place_in_one n m p qs) ∙ shared (nat_eq m n) (same_place p q) (is_place p qs)
+
+-- a place among a document's positions of a word
+place_there : (field : ℕ) (x : List ℕ) (low high : ℕ) (whole : List (ℕ × Document)) (e : ℕ × Document) (p : ℕ × ℕ) → Rises low high (map (λ e. e.0) whole) → doc_of whole e.0 ≡ Some e.1 → is_position (position e.0 p) (flat_map (positions_in field (key.Token x)) whole) ≡ is_place p (places_in (key.Token x) (values_at e.1.values field))
 place_there field x low high whole e p r there =
     among whole
-    ∙ settle (λ d. has_key_at field (key.Token x) d && is_place p (places_in (key.Token x) (values_at d.values field))) low high whole e.0 r
-    ∙ ap (verdict (λ d. has_key_at field (key.Token x) d && is_place p (places_in (key.Token x) (values_at d.values field)))) there
-    ∙ same_tests _ _
-    (λ h. (and_parts (has_key_at field (key.Token x) e.1) (is_place p (places_in (key.Token x) (values_at e.1.values field))) h).1)
-    (λ h. and_from _ _ (place_has_key (key.Token x) (same_place p) field e.1 h) h)
+    ∙ settle (λ d. is_place p (places_in (key.Token x) (values_at d.values field))) low high whole e.0 r
+    ∙ ap (verdict (λ d. is_place p (places_in (key.Token x) (values_at d.values field)))) there
   where
-    among : (list : List (ℕ × Document)) → is_place_in (filter_map (posting_of field (key.Token x)) list) e.0 p ≡ passes (λ d. has_key_at field (key.Token x) d && is_place p (places_in (key.Token x) (values_at d.values field))) list e.0
+    among : (list : List (ℕ × Document)) → is_position (position e.0 p) (flat_map (positions_in field (key.Token x)) list) ≡ passes (λ d. is_place p (places_in (key.Token x) (values_at d.values field))) list e.0
     among [] = refl
     among (f ∷ fs) =
-        elim (has_key_at field (key.Token x) f.1) as (λ b. is_place_in (cons_option (cond b (Some (record { doc = f.0; places = places_in (key.Token x) (values_at f.1.values field) })) None) (filter_map (posting_of field (key.Token x)) fs)) e.0 p ≡ ((nat_eq f.0 e.0 && (b && is_place p (places_in (key.Token x) (values_at f.1.values field)))) || passes (λ d. has_key_at field (key.Token x) d && is_place p (places_in (key.Token x) (values_at d.values field))) fs e.0)) [
-          | true ↦ ap (λ b. (nat_eq f.0 e.0 && is_place p (places_in (key.Token x) (values_at f.1.values field))) || b) (among fs)
-          | false ↦ among fs ∙ sym (ap (λ b. b || passes (λ d. has_key_at field (key.Token x) d && is_place p (places_in (key.Token x) (values_at d.values field))) fs e.0) (and_false (nat_eq f.0 e.0)))
-        ]
+        list_any-append (same_position (position e.0 p)) (positions_in field (key.Token x) f) (flat_map (positions_in field (key.Token x)) fs)
+        ∙ (λ i. place_in_one e.0 f.0 p (places_in (key.Token x) (values_at f.1.values field)) i || among fs i)
 
 -- one word more
 follow_more : (values : List Key) (ws : List (List ℕ)) (x : List ℕ) (i j : ℕ) → follow values (ws ++ x ∷ []) (i, j) ≡ (follow values ws (i, j) && is_place (i, j + length ws) (places_in (key.Token x) values))
@@ -275,63 +265,62 @@ filter_both p q r same (x ∷ xs) =
       | false ↦ filter_both p q r same xs
     ] ∙ ap (λ b. cond b (x ∷ filter r xs) (filter r xs)) (sym (same x))
 
-pub runs_more : (field : ℕ) (w : List ℕ) (ws : List (List ℕ)) (x : List ℕ) (offset low high : ℕ) (list : List (ℕ × Document)) → offset ≡ length ws + 1 → Rises low high (map (λ e. e.0) list) → map (followed_by (filter_map (posting_of field (key.Token x)) list) offset) (runs field w ws list) ≡ runs field w (ws ++ x ∷ []) list
+pub runs_more : (field : ℕ) (w : List ℕ) (ws : List (List ℕ)) (x : List ℕ) (offset low high : ℕ) (list : List (ℕ × Document)) → offset ≡ length ws + 1 → Rises low high (map (λ e. e.0) list) → filter (λ p. is_position (moved_on offset p) (flat_map (positions_in field (key.Token x)) list)) (runs field w ws list) ≡ runs field w (ws ++ x ∷ []) list
 runs_more field w ws x offset low high list is r = step list (all_in low high list r)
   where
-    places_more : (e : ℕ × Document) → doc_of list e.0 ≡ Some e.1 → filter (λ p. is_place_in (filter_map (posting_of field (key.Token x)) list) e.0 (p.0, p.1 + offset)) (starts_of (values_at e.1.values field) w ws) ≡ starts_of (values_at e.1.values field) w (ws ++ x ∷ [])
+    places_more : (e : ℕ × Document) → doc_of list e.0 ≡ Some e.1 → filter (λ p. is_position (position e.0 (p.0, p.1 + offset)) (flat_map (positions_in field (key.Token x)) list)) (starts_of (values_at e.1.values field) w ws) ≡ starts_of (values_at e.1.values field) w (ws ++ x ∷ [])
     places_more e there =
-        filter_both (λ p. follow (values_at e.1.values field) ws (p.0, p.1 + 1)) (λ p. is_place_in (filter_map (posting_of field (key.Token x)) list) e.0 (p.0, p.1 + offset)) (λ p. follow (values_at e.1.values field) (ws ++ x ∷ []) (p.0, p.1 + 1))
+        filter_both (λ p. follow (values_at e.1.values field) ws (p.0, p.1 + 1)) (λ p. is_position (position e.0 (p.0, p.1 + offset)) (flat_map (positions_in field (key.Token x)) list)) (λ p. follow (values_at e.1.values field) (ws ++ x ∷ []) (p.0, p.1 + 1))
         (λ p. follow_more (values_at e.1.values field) ws x p.0 (p.1 + 1)
         ∙ ap (λ b. follow (values_at e.1.values field) ws (p.0, p.1 + 1) && b)
         (ap (λ n. is_place (p.0, n) (places_in (key.Token x) (values_at e.1.values field))) (omega (arith, is)) ∙ sym (place_there field x low high list e (p.0, p.1 + offset) r there)))
         (places_in (key.Token w) (values_at e.1.values field))
 
-    step : (es : List (ℕ × Document)) → AllIn list es → map (followed_by (filter_map (posting_of field (key.Token x)) list) offset) (runs field w ws es) ≡ runs field w (ws ++ x ∷ []) es
+    step : (es : List (ℕ × Document)) → AllIn list es → filter (λ p. is_position (moved_on offset p) (flat_map (positions_in field (key.Token x)) list)) (runs field w ws es) ≡ runs field w (ws ++ x ∷ []) es
     step [] all = refl
     step (e ∷ es) all =
-        elim (has_key_at field (key.Token w) e.1) as (λ b. map (followed_by (filter_map (posting_of field (key.Token x)) list) offset) (cons_option (cond b (Some (record { doc = e.0; places = starts_of (values_at e.1.values field) w ws })) None) (runs field w ws es)) ≡ cons_option (cond b (Some (record { doc = e.0; places = starts_of (values_at e.1.values field) w (ws ++ x ∷ []) })) None) (runs field w (ws ++ x ∷ []) es)) [
-          | true ↦ (λ i. record { doc = e.0; places = places_more e all.0 i } ∷ step es all.1 i)
-          | false ↦ step es all.1
-        ]
+        filter-append (λ p. is_position (moved_on offset p) (flat_map (positions_in field (key.Token x)) list)) (run_of field w ws e) (runs field w ws es)
+        ∙ (λ i. (filter-map (position e.0) (λ p. is_position (moved_on offset p) (flat_map (positions_in field (key.Token x)) list)) (starts_of (values_at e.1.values field) w ws)
+        ∙ ap (map (position e.0)) (places_more e all.0)) i ++ step es all.1 i)
 
--- ---- the numbers that are found
-
-filled_where : (field : ℕ) (w : List ℕ) (ws : List (List ℕ)) (list : List (ℕ × Document)) → filled_numbers (runs field w ws list) ≡ numbers_where (λ d. has_key_at field (key.Token w) d && not (is_empty (starts_of (values_at d.values field) w ws))) list
-filled_where field w ws [] = refl
-filled_where field w ws (e ∷ es) =
-    elim (has_key_at field (key.Token w) e.1) as (λ b. filled_numbers (cons_option (cond b (Some (record { doc = e.0; places = starts_of (values_at e.1.values field) w ws })) None) (runs field w ws es)) ≡ map (λ e. e.0) (cond (b && not (is_empty (starts_of (values_at e.1.values field) w ws))) (e ∷ filter (λ e. has_key_at field (key.Token w) e.1 && not (is_empty (starts_of (values_at e.1.values field) w ws))) es) (filter (λ e. has_key_at field (key.Token w) e.1 && not (is_empty (starts_of (values_at e.1.values field) w ws))) es))) [
-      | true ↦
-          (elim (not (is_empty (starts_of (values_at e.1.values field) w ws))) as (λ b. map (λ p. p.doc) (cond b (record { doc = e.0; places = starts_of (values_at e.1.values field) w ws } ∷ filter (λ p. not (is_empty p.places)) (runs field w ws es)) (filter (λ p. not (is_empty p.places)) (runs field w ws es))) ≡ map (λ e. e.0) (cond b (e ∷ filter (λ e. has_key_at field (key.Token w) e.1 && not (is_empty (starts_of (values_at e.1.values field) w ws))) es) (filter (λ e. has_key_at field (key.Token w) e.1 && not (is_empty (starts_of (values_at e.1.values field) w ws))) es))) [
-            | true ↦ ap (λ xs. e.0 ∷ xs) (filled_where field w ws es)
-            | false ↦ filled_where field w ws es
-          ])
-      | false ↦ filled_where field w ws es
-    ]
-
--- a document with the first word has a start where one of its texts has the words in turn
-pub phrase_test : (field : ℕ) (w : List ℕ) (ws : List (List ℕ)) (d : Document) → (has_key_at field (key.Token w) d && not (is_empty (starts_of (values_at d.values field) w ws))) ≡ (not (is_empty (w ∷ ws)) && list_any (has_words (w ∷ ws)) (values_at d.values field))
-phrase_test field w ws d =
-    let values : List Key = values_at d.values field in
-    let q : ℕ × ℕ → Bool = λ p. follow values ws (p.0, p.1 + 1) in
-    ap (λ b. has_key_at field (key.Token w) d && b) (nonempty q (places_in (key.Token w) values))
-    ∙ same_tests _ _
-    (λ h. (and_parts (has_key_at field (key.Token w) d) (list_any q (places_in (key.Token w) values)) h).1)
-    (λ h. and_from _ _ (place_has_key (key.Token w) q field d h) h)
-    ∙ some_start values w ws
+-- ---- the documents that are found
 
 -- a word alone stands in a text of the document where this has it as a key
 pub word_alone : (field : ℕ) (w : List ℕ) (d : Document) → has_key_at field (key.Token w) d ≡ (not (is_empty (w ∷ [])) && list_any (has_words (w ∷ [])) (values_at d.values field))
 word_alone field w d =
-    let places : List (ℕ × ℕ) = places_in (key.Token w) (values_at d.values field) in
-    let has : has_key_at field (key.Token w) d ≡ not (is_empty places) = any_place (key.Token w) 0 (values_at d.values field) in
-    (elim (has_key_at field (key.Token w) d) as (λ b. b ≡ (b && b)) [ true ↦ refl | false ↦ refl ])
-    ∙ (λ i. has_key_at field (key.Token w) d && has i)
-    ∙ ap (λ ps. has_key_at field (key.Token w) d && not (is_empty ps)) (sym (all_kept places))
-    ∙ phrase_test field w [] d
+    any_place (key.Token w) 0 (values_at d.values field)
+    ∙ some_place (places_in (key.Token w) (values_at d.values field))
+    ∙ some_start (values_at d.values field) w []
   where
-    all_kept : (ps : List (ℕ × ℕ)) → filter (λ p. true) ps ≡ ps
-    all_kept [] = refl
-    all_kept (p ∷ ps) = ap (λ xs. p ∷ xs) (all_kept ps)
+    some_place : (ps : List (ℕ × ℕ)) → not (is_empty ps) ≡ list_any (λ p. true) ps
+    some_place [] = refl
+    some_place (p ∷ ps) = refl
 
-pub phrase_numbers : (field : ℕ) (w : List ℕ) (ws : List (List ℕ)) (list : List (ℕ × Document)) → filled_numbers (runs field w ws list) ≡ numbers_where (λ d. not (is_empty (w ∷ ws)) && list_any (has_words (w ∷ ws)) (values_at d.values field)) list
-phrase_numbers field w ws list = filled_where field w ws list ∙ (λ i. numbers_where (λ d. phrase_test field w ws d i) list)
+-- a start in the document of a number
+start_in : (field : ℕ) (w : List ℕ) (ws : List (List ℕ)) (n : ℕ) (e : ℕ × Document) → list_any (λ p. nat_eq p.doc n) (run_of field w ws e) ≡ (nat_eq e.0 n && list_any (has_words (w ∷ ws)) (values_at e.1.values field))
+start_in field w ws n e =
+    let values : List Key = values_at e.1.values field in
+    any_map (λ p. nat_eq p.doc n) (position e.0) (starts_of values w ws)
+    ∙ any_filter (λ p. nat_eq e.0 n) (λ p. follow values ws (p.0, p.1 + 1)) (places_in (key.Token w) values)
+    ∙ beside (places_in (key.Token w) values)
+    ∙ ap (λ b. nat_eq e.0 n && b) (some_start values w ws)
+  where
+    turned : (a c x : Bool) → ((a && c) || (c && x)) ≡ (c && (a || x))
+    turned true true x = refl
+    turned true false x = refl
+    turned false true x = refl
+    turned false false x = refl
+
+    beside : (ps : List (ℕ × ℕ)) → list_any (λ p. follow (values_at e.1.values field) ws (p.0, p.1 + 1) && nat_eq e.0 n) ps ≡ (nat_eq e.0 n && list_any (λ p. follow (values_at e.1.values field) ws (p.0, p.1 + 1)) ps)
+    beside [] = sym (and_false (nat_eq e.0 n))
+    beside (p ∷ ps) =
+        ap (λ b. (follow (values_at e.1.values field) ws (p.0, p.1 + 1) && nat_eq e.0 n) || b) (beside ps)
+        ∙ turned (follow (values_at e.1.values field) ws (p.0, p.1 + 1)) (nat_eq e.0 n) (list_any (λ p. follow (values_at e.1.values field) ws (p.0, p.1 + 1)) ps)
+
+pub phrase_set : (field : ℕ) (w : List ℕ) (ws : List (List ℕ)) (v : Numbered) → from_list {R = nat_cmp} (map (λ p. p.doc) (runs field w ws v.list)) ≡ found (λ d. not (is_empty (w ∷ ws)) && list_any (has_words (w ∷ ws)) (values_at d.values field)) v
+phrase_set field w ws v = same_set nat_cmp_total nat_cmp-IsAntisymmetric _ _ (λ n.
+    contains-from_list_nat (map (λ p. p.doc) (runs field w ws v.list)) n
+    ∙ any_map (λ y. nat_eq y n) (λ (p : Position). p.doc) (runs field w ws v.list)
+    ∙ any_flat (λ p. nat_eq p.doc n) (run_of field w ws) v.list
+    ∙ (λ i. list_any (λ e. start_in field w ws n e i) v.list)
+    ∙ sym (contains_found (λ d. not (is_empty (w ∷ ws)) && list_any (has_words (w ∷ ws)) (values_at d.values field)) v n))

@@ -1,5 +1,5 @@
 -- The last steps of functions.
-use Rattle.std.proofs.Common.{Bor, ◌≡◌, ℕ, ◌+◌, ◌<◌, Bool, true, false, ◌&&◌, ◌||◌, List, [], ◌∷◌, ◌++◌, length, get_or, take, drop, map, filter, nat_eq, All, refl, sym, ap, subst, ◌∙◌, arith}
+use Rattle.std.proofs.Common.{Bor, ◌≡◌, ℕ, ◌+◌, ◌<◌, Bool, true, false, ◌&&◌, ◌||◌, List, [], ◌∷◌, ◌++◌, length, get_or, take, drop, map, nat_eq, All, refl, sym, ap, subst, ◌∙◌, arith}
 use Rattle.std.specs.List.{list_any, list_all, starts_with}
 use Rattle.std.specs.List.Sorted.{IsStrictlyIncreasing}
 use Rattle.std.specs.Cmp.{nat_cmp_total}
@@ -17,39 +17,15 @@ use Rattle.query_tree.specs.declared.query.Query.TheViews as query
 use Rattle.doc_sets.specs.Sets.{Numbers, AreDocuments}
 use Rattle.doc_sets.specs.declared.TheConstants.{MAX_DOCS}
 use Rattle.doc_sets.proofs.Members.{increasing, all_documents}
-use Rattle.segment_postings.specs.declared.posting.Posting.{Posting}
 use Rattle.segment_postings.specs.Numbered.{Numbered, IsNumbered, numbers}
 use Rattle.segment_postings.specs.declared.span.Span.TheVariants.{Strings, Tokens}
 use Rattle.segment_postings.specs.Spans.{takes, numbers_within}
 use Rattle.query_eval.specs.Found.{numbers_where, found, part, answer}
 use Rattle.query_eval.specs.Many.{IsUnion, IsCommon}
-use Rattle.query_eval.specs.Runs.{starts_at_first, is_place}
 use Rattle.query_eval.proofs.Ascents.{ascending_where}
 use Rattle.query_eval.proofs.Loops.{joined}
 use Rattle.query_eval.proofs.Verdicts.{or_false, found_or, found_alike, found_all, found_some, found_every}
 use Rattle.query_eval.proofs.KindsOfQueries.{part_should, part_must, answer_negative}
-
--- ---- places in the first posting
-
-none_kept : {A : Type 0} (xs : List A) → filter (λ x. false) xs ≡ []
-none_kept [] = refl
-none_kept (x ∷ xs) = none_kept xs
-
-pub no_first : (next : List Posting) (n offset : ℕ) (places found : List (ℕ × ℕ)) → length next ≡ 0 → found ≡ [] → found ≡ filter (λ p. starts_at_first next n offset p) places
-no_first [] n offset places found h e = e ∙ sym (none_kept places)
-no_first (q ∷ qs) n offset places found h e = absurd (omega (arith, h))
-
-module _ (next : List Posting) (first : Posting) (others : List Posting) (n offset : ℕ) (places : List (ℕ × ℕ)) (is : next ≡ first ∷ others) where
-  pub other_first : (found : List (ℕ × ℕ)) → nat_eq first.doc n ≡ false → found ≡ [] → found ≡ filter (λ p. starts_at_first next n offset p) places
-  other_first found other e =
-      e
-      ∙ sym ((λ i. filter (λ p. other i && is_place (p.0, p.1 + offset) first.places) places) ∙ none_kept places)
-      ∙ sym (ap (λ ps. filter (λ p. starts_at_first ps n offset p) places) is)
-
-  pub same_first : nat_eq first.doc n ≡ true → filter (λ p. is_place (p.0, p.1 + offset) first.places) places ≡ filter (λ p. starts_at_first next n offset p) places
-  same_first same =
-      sym (λ i. filter (λ p. same i && is_place (p.0, p.1 + offset) first.places) places)
-      ∙ sym (ap (λ ps. filter (λ p. starts_at_first ps n offset p) places) is)
 
 -- ---- the sets so far
 

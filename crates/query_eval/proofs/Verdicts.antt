@@ -45,7 +45,7 @@ is_in-where p (e ∷ es) n =
       | false ↦ is_in-where p es n ∙ sym (ap (λ b. b || passes p es n) (and_false (nat_eq e.0 n)))
     ]
 
-contains_found : (p : Document → Bool) (v : Numbered) (n : ℕ) → contains (found p v) n ≡ passes p v.list n
+pub contains_found : (p : Document → Bool) (v : Numbered) (n : ℕ) → contains (found p v) n ≡ passes p v.list n
 unfolding found
 contains_found p v n = contains-from_list_nat (numbers_where p v.list) n ∙ is_in-where p v.list n
 

@@ -17,3 +17,4 @@ pub mod NumbersGathered
 pub mod SpanKeys
 pub mod SpanPlaces
 pub mod SpanNumbers
+pub mod PositionsGathered

@@ -7,3 +7,4 @@ pub mod Groups
 pub mod Layout
 pub mod Renumbering
 pub mod Spans
+pub mod Positions

@@ -3,9 +3,10 @@ ghost use Rattle.std.specs.Prelude.{◌≡◌, ℕ, ◌+◌, ◌<◌, List, ◌�
 ghost use Rattle.doc_sets.specs.declared.TheConstants.{MAX_DOCS};
 ghost use Rattle.segment_postings.specs.Groups.{has_places, gathered, gather_one, put_place, told_at};
 ghost use Rattle.segment_postings.specs.Groups.{numbers_at, told_number, next_last};
+ghost use Rattle.segment_postings.specs.Positions.{told_position, positions_at};
 
 use crate::occurrence::Place;
-use crate::posting::{Places, Posting};
+use crate::posting::{Places, Position, Posting};
 use doc_sets::{DocNo, DocSet};
 use field_schema::{Key, NoMemory};
 use std::alloc::Global;
@@ -63,6 +64,42 @@ fn add_number(
     }
     found.push(number)?;
     Ok(Some(number))
+}
+
+/// Adds the positions of the places in live documents, of which the first document has the number `base`. It costs the number of
+/// places.
+pub(crate) fn add_positions(
+    found: &mut Vec<Position>,
+    live: &DocSet,
+    base: DocNo,
+    places: &[Place],
+) -> Result<(), NoMemory>
+    requires { All (λ p. base + p.doc < MAX_DOCS) places.now }
+    ensures { OnOk result (found.new.items ≡ found.old.items ++ positions_at live.now base places.now) }
+{
+    for place in places {
+        add_position(found, live, base + place.doc, *place)?;
+    }
+    Ok(())
+}
+
+// Adds the position of a place in the document of a number, where that is live.
+fn add_position(
+    found: &mut Vec<Position>,
+    live: &DocSet,
+    doc: DocNo,
+    place: Place,
+) -> Result<(), NoMemory>
+    ensures { OnOk result (found.new.items ≡ found.old.items ++ told_position live.now doc place) }
+{
+    if live.has(doc) {
+        found.push(Position {
+            doc,
+            value: place.value,
+            token: place.token,
+        })?;
+    }
+    Ok(())
 }
 
 // Adds what is told of a place, where its document is live.

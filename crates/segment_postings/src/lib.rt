@@ -14,7 +14,7 @@ mod span;
 mod terms;
 mod view;
 
-pub use posting::{Counts, Places, Posting};
+pub use posting::{Counts, Places, Position, Posting};
 pub use probe::Probe;
 pub use reads::Reads;
 pub use span::Span;

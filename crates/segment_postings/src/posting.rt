@@ -50,6 +50,15 @@ pub struct Posting {
     pub places: Places,
 }
 
+/// Where a key stands in a document: the document's number, the value's index among the document's values in the field, and
+/// the key's index among the value's keys. Positions stand in the order of these three.
+#[derive(Clone, Copy, Debug, PartialEq, Eq)]
+pub struct Position {
+    pub doc: DocNo,
+    pub value: u32,
+    pub token: u32,
+}
+
 /// How often a view was read: its postings and terms, its sort values, and its stored documents. A count at its
 /// greatest number stays.
 #[derive(Clone, Copy, Debug, PartialEq, Eq)]

@@ -1,7 +1,7 @@
 ghost use Rattle.std.specs.Prelude.{◌≡◌};
 ghost use Rattle.segment_postings.specs.Views.{terms_of};
 
-use crate::posting::{Counts, Posting};
+use crate::posting::{Counts, Position, Posting};
 use crate::reads::Reads;
 use crate::span::Span;
 use crate::view::View;
@@ -67,6 +67,16 @@ impl<'a> Reads for Probe<'a> {
     ) -> Result<(), NoMemory> {
         self.counts.postings = self.counts.postings.saturating_add(1);
         self.view.add_numbers(found, field, key)
+    }
+
+    fn add_positions(
+        &mut self,
+        found: &mut Vec<Position>,
+        field: FieldNo,
+        key: &Key,
+    ) -> Result<(), NoMemory> {
+        self.counts.postings = self.counts.postings.saturating_add(1);
+        self.view.add_positions(found, field, key)
     }
 
     fn add_numbers_within(

@@ -5,11 +5,12 @@ ghost use Rattle.std.specs.Option.{option_and_then};
 ghost use Rattle.field_schema.specs.declared.key.Key.{Key};
 ghost use Rattle.segment_postings.specs.declared.posting.Counts.{Counts};
 ghost use Rattle.segment_postings.specs.Numbered.{Numbered, IsNumbered, IsLive, numbers, doc_at, sort_value};
+ghost use Rattle.segment_postings.specs.Positions.{positions_of};
 ghost use Rattle.segment_postings.specs.Postings.{postings_of};
 ghost use Rattle.segment_postings.specs.Spans.{takes, numbers_within};
 ghost use Rattle.segment_postings.specs.Terms.{AreTerms, terms_from, raised};
 
-use crate::posting::{Counts, Posting};
+use crate::posting::{Counts, Position, Posting};
 use crate::span::Span;
 use doc_model::Doc;
 use doc_sets::{DocNo, DocSet};
@@ -19,8 +20,9 @@ use std::sync::Arc;
 
 /// What an evaluation reads of a view.
 ///
-/// No call changes the view or its terms. `postings`, `add_numbers`, `add_numbers_within` and `terms_from` raise the first
-/// count by one, `value` the second and `stored` the third, also where memory is wanting; a count at its greatest number stays.
+/// No call changes the view or its terms. `postings`, `add_numbers`, `add_positions`, `add_numbers_within` and `terms_from`
+/// raise the first count by one, `value` the second and `stored` the third, also where memory is wanting; a count at its
+/// greatest number stays.
 pub trait Reads {
     /// The view that is read.
     ghost view: { Self → Numbered };
@@ -66,6 +68,24 @@ pub trait Reads {
     ) -> Result<(), NoMemory>
         ensures numbers { OnOk result (found.new.items ≡ found.old.items
             ++ map (λ p. p.doc) (postings_of (view self.old) field key.now)) }
+        ensures view { view self.new ≡ view self.old }
+        ensures terms { terms self.new ≡ terms self.old }
+        ensures postings_count { (counted self.new).postings ≡ raised (counted self.old).postings }
+        ensures values_count { (counted self.new).values ≡ (counted self.old).values }
+        ensures stored_count { (counted self.new).stored ≡ (counted self.old).stored };
+
+    /// Adds where a key stands in a field of the live documents, ascending, behind others: what the postings of a token tell, in one
+    /// row. Fails only for want of memory.
+    ///
+    /// It costs for each segment the logarithm of the number of the field's keys, and a step for each place of the key.
+    fn add_positions(
+        &mut self,
+        found: &mut Vec<Position>,
+        field: FieldNo,
+        key: &Key,
+    ) -> Result<(), NoMemory>
+        ensures positions { OnOk result (found.new.items ≡
+            found.old.items ++ positions_of (view self.old) field key.now) }
         ensures view { view self.new ≡ view self.old }
         ensures terms { terms self.new ≡ terms self.old }
         ensures postings_count { (counted self.new).postings ≡ raised (counted self.old).postings }

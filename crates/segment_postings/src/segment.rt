@@ -4,6 +4,7 @@ ghost use Rattle.std.specs.Arc.{arc_value};
 ghost use Rattle.std.specs.FinSet as set;
 ghost use Rattle.field_schema.specs.Values.{values_at};
 ghost use Rattle.doc_sets.specs.declared.TheConstants.{MAX_DOCS};
+ghost use Rattle.segment_postings.specs.Positions.{positions_among};
 ghost use Rattle.segment_postings.specs.Postings.{postings_among};
 ghost use Rattle.segment_postings.specs.Segments.{IsPart, AreIndexes, field_at, with_key};
 ghost use Rattle.segment_postings.specs.Spans.{takes, numbers_among};
@@ -12,11 +13,11 @@ ghost use Rattle.segment_postings.specs.Groups.{EndsBefore};
 ghost use Rattle.segment_postings.specs.Views.{live_from};
 ghost use Rattle.segment_postings.specs.Renumbering.{AreJoined};
 
-use crate::gathering::{add_numbers, gather};
+use crate::gathering::{add_numbers, add_positions, gather};
 use crate::laid::Laid;
 use crate::occurrence::{Place, index};
 use crate::packing::add_live;
-use crate::posting::Posting;
+use crate::posting::{Position, Posting};
 use crate::renumbering::moves;
 use crate::span::Span;
 use doc_model::Doc;
@@ -140,6 +141,26 @@ impl Segment {
     {
         let places = places_in(self.fields.as_slice(), field, key);
         add_numbers(found, live, base, places)?;
+        Ok(())
+    }
+
+    /// Adds the positions of a key in the live documents, of which the first document has the number `base`.
+    ///
+    /// It costs the logarithm of the number of the field's keys, and the key's places.
+    pub fn add_positions(
+        &self,
+        found: &mut Vec<Position>,
+        live: &DocSet,
+        base: DocNo,
+        field: FieldNo,
+        key: &Key,
+    ) -> Result<(), NoMemory>
+        requires { base + length self.now.docs ≤ MAX_DOCS }
+        ensures { OnOk result (found.new.items ≡
+            found.old.items ++ positions_among live.now base field key.now self.now.docs) }
+    {
+        let places = places_in(self.fields.as_slice(), field, key);
+        add_positions(found, live, base, places)?;
         Ok(())
     }
 

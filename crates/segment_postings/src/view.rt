@@ -4,6 +4,7 @@ ghost use Rattle.std.specs.FinSet as set;
 ghost use Rattle.std.specs.List.{range_with_len};
 ghost use Rattle.doc_sets.specs.declared.TheConstants.{MAX_DOCS};
 ghost use Rattle.segment_postings.specs.Numbered.{IsNumbered, IsLive, no_docs, numbers, docs, extended, doc_at};
+ghost use Rattle.segment_postings.specs.Positions.{positions_of};
 ghost use Rattle.segment_postings.specs.Postings.{postings_of};
 ghost use Rattle.segment_postings.specs.Segments.{IsPart};
 ghost use Rattle.segment_postings.specs.Spans.{takes, numbers_within};
@@ -11,7 +12,7 @@ ghost use Rattle.segment_postings.specs.Terms.{AreTerms, terms_from};
 ghost use Rattle.segment_postings.specs.Views.{terms_of, all_docs, AddsNumbers, AddsPart, Merges, Packs, IsPacked};
 
 use crate::packing::{Packing, moved};
-use crate::posting::Posting;
+use crate::posting::{Position, Posting};
 use crate::segment::Segment;
 use crate::span::Span;
 use doc_model::Doc;
@@ -181,6 +182,25 @@ impl View {
         let parts = self.parts.as_slice();
         for part in parts {
             part.add_numbers(found, live, base, field, key)?;
+            base += part.docs().len() as u32;
+        }
+        Ok(())
+    }
+
+    // Adds the positions of a key in a field of the live documents.
+    pub(crate) fn add_positions(
+        &self,
+        found: &mut Vec<Position>,
+        field: FieldNo,
+        key: &Key,
+    ) -> Result<(), NoMemory>
+        ensures { OnOk result (found.new.items ≡ found.old.items ++ positions_of self.now.seen field key.now) }
+    {
+        let live: &DocSet = &self.live;
+        let mut base = 0;
+        let parts = self.parts.as_slice();
+        for part in parts {
+            part.add_positions(found, live, base, field, key)?;
             base += part.docs().len() as u32;
         }
         Ok(())

@@ -1,5 +1,5 @@
-use Rattle.query_eval.proofs.Loops.{Follows}
+use Rattle.query_eval.proofs.PositionWalks.{Starts}
 use Rattle.query_eval.proofs.phrase.followed.Given as goal
 
-abbrev pub invariant-loop-posting : goal.invariant-loop-posting
-invariant-loop-posting l = Follows l.held l.next l.offset l.posting-index l.rest l.found.items
+abbrev pub invariant-loop-position : goal.invariant-loop-position
+invariant-loop-position l = Starts l.held l.next l.offset l.position-index l.rest l.found.items

@@ -1,11 +1,13 @@
-use Rattle.std.proofs.Common.{◌<◌, ◌≤◌, length, ap, ◌∙◌, arith}
+use Rattle.std.proofs.Common.{◌<◌, ◌≤◌, length, sym, ap, subst, ◌∙◌, arith}
+use Rattle.std.proofs.lemmas.Result.{IfOk-weaker}
 use Rattle.field_schema.specs.declared.key.Key.TheVariants as key
+use Rattle.doc_sets.specs.Sets.{Numbers, AreDocuments}
 use Rattle.segment_postings.specs.Numbered.{Numbered}
-use Rattle.segment_postings.specs.Postings.{postings_of}
+use Rattle.segment_postings.specs.Positions.{positions_of}
 use Rattle.query_eval.proofs.Loops.{kept_on}
-use Rattle.query_eval.proofs.PhraseSteps.{says_words, postings_rise, held_rise, first_word, next_word, last_word, no_words}
-use Rattle.query_eval.proofs.Places.{held_places, next_places}
-use Rattle.query_eval.proofs.Steps.{increasing_where, documents_where, set_where}
+use Rattle.query_eval.proofs.PhraseSteps.{says_words, first_word, next_word, last_word, no_words}
+use Rattle.query_eval.proofs.PositionWalks.{held_rise, next_rise}
+use Rattle.query_eval.proofs.Steps.{found_documents}
 use Rattle.query_eval.proofs.phrase.in_turn.Goals as goal
 
 pub returns-in_default-clause-found : goal.returns-in_default-clause-found
@@ -23,17 +25,8 @@ followed-requires-clause-held_rise g c =
 
 pub followed-requires-clause-next_rise : goal.followed-requires-clause-next_rise
 followed-requires-clause-next_rise g c =
-    postings_rise (g.P.Reads.view c.args.probe.now) c.args.field (key.Token c.index-others-i.result) c.as_slice-in-loop-i.result.now c.requires
-    (c.as_slice-in-loop-i.ensures.value ∙ c.in_ok-next.ensures.found ∙ ap (λ (v : Numbered). postings_of v c.args.field (key.Token c.index-others-i.result)) c.loop-i.invariant.1.view)
-
-pub followed-requires-clause-held_places : goal.followed-requires-clause-held_places
-followed-requires-clause-held_places g c =
-    held_places (g.P.Reads.view c.args.probe.now) c.args.field c.args.words.now c.loop-i.i c.as_slice.result.now (c.as_slice.ensures.value ∙ c.loop-i.invariant.0)
-
-pub followed-requires-clause-next_places : goal.followed-requires-clause-next_places
-followed-requires-clause-next_places g c =
-    next_places (g.P.Reads.view c.args.probe.now) c.args.field c.index-others-i.result c.as_slice-in-loop-i.result.now
-    (c.as_slice-in-loop-i.ensures.value ∙ c.in_ok-next.ensures.found ∙ ap (λ (v : Numbered). postings_of v c.args.field (key.Token c.index-others-i.result)) c.loop-i.invariant.1.view)
+    next_rise (g.P.Reads.view c.args.probe.now) c.args.field c.index-others-i.result c.as_slice-in-loop-i.result.now c.requires
+    (c.as_slice-in-loop-i.ensures.value ∙ c.in_ok-next.ensures.found ∙ ap (λ (v : Numbered). positions_of v c.args.field (key.Token c.index-others-i.result)) c.loop-i.invariant.1.view)
 
 pub loop-i-preserved : goal.loop-i-preserved
 loop-i-preserved g c =
@@ -41,29 +34,23 @@ loop-i-preserved g c =
       next_word (g.P.Reads.view c.args.probe.now) c.args.field c.args.words.now c.in-Some.first.now c.in-Some.others.now c.loop-i.i c.index-others-i.result
           c.as_slice.result.now c.as_slice-in-loop-i.result.now c.in_ok-held-2.held.items c.requires c.in-Some.ensures.cases.0 within c.index-others-i.is
           (c.as_slice.ensures.value ∙ c.loop-i.invariant.0)
-          (c.as_slice-in-loop-i.ensures.value ∙ c.in_ok-next.ensures.found ∙ ap (λ (v : Numbered). postings_of v c.args.field (key.Token c.index-others-i.result)) c.loop-i.invariant.1.view)
+          (c.as_slice-in-loop-i.ensures.value ∙ c.in_ok-next.ensures.found ∙ ap (λ (v : Numbered). positions_of v c.args.field (key.Token c.index-others-i.result)) c.loop-i.invariant.1.view)
           c.in_ok-held-2.ensures,
       kept_on g.P.Reads.view g.P.Reads.terms g.P.Reads.counted c.args.probe.now c.loop-i.probe c.word-in-loop-i.new.probe c.loop-i.invariant.1 c.word-in-loop-i.ensures.kept,
     )
 
-pub from_sorted-requires-clause-rising : goal.from_sorted-requires-clause-rising
-from_sorted-requires-clause-rising g c =
+pub set_of-requires : goal.set_of-requires
+set_of-requires g c =
     let v = g.P.Reads.view c.args.probe.now in
     let whole : length c.in-Some.others.now ≤ c.loop-i.i = omega arith in
-    increasing_where (says_words c.args.field c.args.words.now) v c.requires c.as_slice-3.result.now
-    (c.as_slice-3.ensures.value ∙ last_word v c.args.field c.args.words.now c.in-Some.first.now c.in-Some.others.now c.loop-i.i c.as_slice-2.result.now c.in_ok-numbers.numbers.items c.in-Some.ensures.cases.0 whole (c.as_slice-2.ensures.value ∙ c.loop-i.invariant.0) c.in_ok-numbers.ensures)
-
-pub from_sorted-requires-clause-documents : goal.from_sorted-requires-clause-documents
-from_sorted-requires-clause-documents g c =
-    let v = g.P.Reads.view c.args.probe.now in
-    let whole : length c.in-Some.others.now ≤ c.loop-i.i = omega arith in
-    documents_where (says_words c.args.field c.args.words.now) v c.requires c.as_slice-3.result.now
-    (c.as_slice-3.ensures.value ∙ last_word v c.args.field c.args.words.now c.in-Some.first.now c.in-Some.others.now c.loop-i.i c.as_slice-2.result.now c.in_ok-numbers.numbers.items c.in-Some.ensures.cases.0 whole (c.as_slice-2.ensures.value ∙ c.loop-i.invariant.0) c.in_ok-numbers.ensures)
+    subst (λ (s : Numbers). AreDocuments s)
+    (sym (last_word v c.args.field c.args.words.now c.in-Some.first.now c.in-Some.others.now c.loop-i.i c.as_slice-2.result.now c.in_ok-numbers.numbers.items c.in-Some.ensures.cases.0 whole (c.as_slice-2.ensures.value ∙ c.loop-i.invariant.0) c.in_ok-numbers.ensures))
+    (found_documents (says_words c.args.field c.args.words.now) v c.requires)
 
 pub returns-clause-found : goal.returns-clause-found
 returns-clause-found g c =
     let v = g.P.Reads.view c.args.probe.now in
     let whole : length c.in-Some.others.now ≤ c.loop-i.i = omega arith in
-    c.in-Ok.ensures
-    ∙ set_where (says_words c.args.field c.args.words.now) v c.requires c.as_slice-3.result.now
-    (c.as_slice-3.ensures.value ∙ last_word v c.args.field c.args.words.now c.in-Some.first.now c.in-Some.others.now c.loop-i.i c.as_slice-2.result.now c.in_ok-numbers.numbers.items c.in-Some.ensures.cases.0 whole (c.as_slice-2.ensures.value ∙ c.loop-i.invariant.0) c.in_ok-numbers.ensures)
+    IfOk-weaker c.set_of.result _ _
+    (λ s e. e ∙ last_word v c.args.field c.args.words.now c.in-Some.first.now c.in-Some.others.now c.loop-i.i c.as_slice-2.result.now c.in_ok-numbers.numbers.items c.in-Some.ensures.cases.0 whole (c.as_slice-2.ensures.value ∙ c.loop-i.invariant.0) c.in_ok-numbers.ensures)
+    c.set_of.ensures
