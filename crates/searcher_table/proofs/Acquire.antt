@@ -9,19 +9,24 @@ use Rattle.registry_machine.specs.declared.entry.Entry.{Entry}
 use Rattle.registry_machine.specs.declared.entry.Entry.TheVariants.{Acquire, NotYet}
 use Rattle.registry_machine.specs.Entries.{caller_of, has_place}
 use Rattle.registry_machine.specs.Callers.{mine}
-use Rattle.registry_machine.specs.Machine.{State, is_some_of}
+use Rattle.registry_machine.specs.Machine.{State, is_some_of, after}
 use Rattle.registry_machine.specs.Legal.{IsAllowed, Legal, state_of}
 use Rattle.searcher_table.specs.declared.board.Cell.{Cell}
 use Rattle.searcher_table.specs.declared.board.Plan.{Plan}
 use Rattle.searcher_table.specs.declared.board.Known.{Known}
-use Rattle.searcher_table.specs.Words.{word_count, current_word, slot_word, limits}
+use Rattle.searcher_table.specs.Words.{word_count, current_word, limits}
 use Rattle.searcher_table.specs.Counts.{is_acquire, is_not_yet, releases, pinned, NamesCaller}
-use Rattle.searcher_table.specs.Rule.{CountsTooEarly, IsPacked, Two, Kept}
+use Rattle.searcher_table.specs.Rule.{CountsTooEarly, IsPacked, Two, released, Kept}
+use Rattle.searcher_table.specs.declared.board.Task.{Task}
+use Rattle.searcher_table.specs.declared.board.Task.TheVariants.{Idle}
+use Rattle.searcher_table.specs.declared.board.Fresh.{Fresh}
+use Rattle.searcher_table.specs.Tasks.{IsWarming, Three}
+use Rattle.searcher_table.proofs.Slotted.{three_words, three_counts, three_acquired}
 use Rattle.searcher_table.specs.Steps.{looked, acquire_of, TellsCurrent, Acquired}
-use Rattle.searcher_table.proofs.Frame.{covers}
+use Rattle.searcher_table.proofs.Frame.{put_same, covers}
 use Rattle.searcher_table.proofs.Execute.{grows_legal}
 use Rattle.searcher_table.proofs.Counts.{counts_last, pins_own, own_count, few_tries}
-use Rattle.searcher_table.proofs.Beside.{own_last, not_counted, all_snoc}
+use Rattle.searcher_table.proofs.Beside.{own_last, not_counted, all_snoc, few_slots}
 use Rattle.searcher_table.proofs.Quiet.{state_next}
 use Rattle.searcher_table.proofs.Current.{generation_of, count_of, small, tells}
 use Rattle.searcher_table.proofs.OwnStep.{pinned_still, acquires_still, own_step}
@@ -35,8 +40,12 @@ most_one true true = omega arith
 most_one true false = omega arith
 most_one false b = omega arith
 
-module _ {W U X L : Type 0} (p : Plan W) (log : List (Entry U X L)) (words : List ℕ) (c x : ℕ) (long : length words ≡ word_count) (legal : Legal (limits p) log) (two : Two p log words)
+module _ {W U X L : Type 0} (p : Plan W) (log : List (Entry U X L)) (words : List ℕ) (tasks : ℕ → Task) (c x : ℕ) (long : length words ≡ word_count) (legal : Legal (limits p) log) (two : Two p log words) (three : Three p (state_of (limits p) log) (released log) (tasks 0) tasks words)
     (low : 1 ≤ c) (few : c ≤ 64) (left : count_by is_acquire (mine c log) < p.budget) where
+  -- the words of slots are others
+  same_slots : Three p (state_of (limits p) log) (released log) (tasks 0) tasks (set words current_word x)
+  same_slots = three_words p (state_of (limits p) log) (released log) tasks (few_slots p two.sizes) words (set words current_word x) (λ i a _. get_or-set_other words current_word i x 0 (λ z. absurd (omega arith))) three
+
   -- no caller acquires more often than it may
   within : (e : Entry U X L) → caller_of e ≡ Some c → (d : ℕ) → count_by is_acquire (mine d (log ++ e ∷ [])) ≤ p.budget
   within e named d =
@@ -59,8 +68,6 @@ module _ {W U X L : Type 0} (p : Plan W) (log : List (Entry U X L)) (words : Lis
       none = ap (λ (s : State). s.current) next ∙ k.none;
       counted = get_or-set_same words current_word x 0 (omega arith) ∙ (let a = k.counted in let b = counts_last is_not_yet log e in omega arith);
     };
-    opened = λ slot g o. get_or-set_other words current_word (slot_word slot) x 0 (λ z. absurd (omega arith)) ∙ two.opened slot g (sym (ap (λ (s : State). s.slots slot) next) ∙ o) ∙ sym (not_counted (releases g) log e refl);
-    free = λ slot b o. get_or-set_other words current_word (slot_word slot) x 0 (λ z. absurd (omega arith)) ∙ two.free slot b (sym (ap (λ (s : State). s.slots slot) next) ∙ o);
     named = all_snoc NamesCaller log e two.named (low, few);
     within = within e refl;
   }
@@ -82,19 +89,28 @@ module _ {W U X L : Type 0} (p : Plan W) (log : List (Entry U X L)) (words : Lis
           let same = get_or-set_same words current_word x 0 (omega arith) in
           omega arith;
     };
-    opened = λ slot g o. get_or-set_other words current_word (slot_word slot) x 0 (λ z. absurd (omega arith)) ∙ two.opened slot g (sym (ap (λ (s : State). s.slots slot) next) ∙ o) ∙ sym (not_counted (releases g) log e refl);
-    free = λ slot b o. get_or-set_other words current_word (slot_word slot) x 0 (λ z. absurd (omega arith)) ∙ two.free slot b (sym (ap (λ (s : State). s.slots slot) next) ∙ o);
     named = all_snoc NamesCaller log e two.named (low, few);
     within = within e refl;
   }
+
+  -- the slots after it, by the entry
+  slots_early : tasks c ≡ Idle → Three p (after {U = U} {D = X} {L = L} (state_of (limits p) log) (NotYet c)) (released (log ++ NotYet c ∷ [])) (tasks 0) tasks (set words current_word x)
+  slots_early idle = three_counts p (state_of (limits p) log) (released log) tasks (few_slots p two.sizes) (released (log ++ NotYet c ∷ [])) (set words current_word x) (λ g. not_counted (releases g) log (NotYet c) refl) same_slots
+
+  slots_acquired : (g k : ℕ) → (state_of (limits p) log).current ≡ Some g → tasks c ≡ Idle → Three p (after {U = U} {D = X} {L = L} (state_of (limits p) log) (Acquire c g k)) (released (log ++ Acquire c g k ∷ [])) (tasks 0) tasks (set words current_word x)
+  slots_acquired g k current idle =
+      three_counts p (after {U = U} {D = X} {L = L} (state_of (limits p) log) (Acquire c g k)) (released log) tasks (few_slots p two.sizes) (released (log ++ Acquire c g k ∷ [])) (set words current_word x) (λ h. not_counted (releases h) log (Acquire c g k) refl)
+      (three_acquired U X L p (state_of (limits p) log) (released log) tasks (set words current_word x) same_slots c g k current idle)
 
   -- the entry of an acquire, its cause, and what the words say afterwards
   record IsAcquire : Type 0 where
     pub may : IsAllowed (limits p) (state_of (limits p) log) (acquire_of {U = U} {X = X} {L = L} c (slice_index words current_word))
     pub later : Two p (log ++ acquire_of c (slice_index words current_word) ∷ []) (set words current_word x)
+    pub slots : Three p (after (state_of (limits p) log) (acquire_of {U = U} {X = X} {L = L} c (slice_index words current_word))) (released (log ++ acquire_of c (slice_index words current_word) ∷ [])) (tasks 0) tasks (set words current_word x)
+    pub warm : (f : Fresh) → IsWarming (state_of (limits p) log) f → IsWarming (after (state_of (limits p) log) (acquire_of {U = U} {X = X} {L = L} c (slice_index words current_word))) f
 
-  acquire_is : (state_of (limits p) log).pins c ≡ None → x ≡ slice_index words current_word + 1 → IsAcquire
-  acquire_is free is =
+  acquire_is : (state_of (limits p) log).pins c ≡ None → tasks c ≡ Idle → x ≡ slice_index words current_word + 1 → IsAcquire
+  acquire_is free idle is =
       let n : ℕ = slice_index words current_word in
       let l = limits p in
       let g : ℕ = n / 549755813888 in
@@ -108,6 +124,8 @@ module _ {W U X L : Type 0} (p : Plan W) (log : List (Entry U X L)) (words : Lis
       record {
         may = subst (λ y. IsAllowed l (state_of l log) y) (sym e) record { free = free; none = k.none };
         later = subst (λ (y : Entry U X L). Two p (log ++ y ∷ []) (set words current_word x)) (sym e) (two_early k is);
+        slots = subst (λ (y : Entry U X L). Three p (after (state_of l log) y) (released (log ++ y ∷ [])) (tasks 0) tasks (set words current_word x)) (sym e) (slots_early idle);
+        warm = λ f z. subst (λ (y : Entry U X L). IsWarming (after (state_of l log) y) f) (sym e) record { warming = z.warming; opened = z.opened };
       })
       (λ (k : IsPacked l log n).
       let i = small p log words legal two k in
@@ -121,6 +139,8 @@ module _ {W U X L : Type 0} (p : Plan W) (log : List (Entry U X L)) (words : Lis
       record {
         may = subst (λ y. IsAllowed l (state_of l log) y) (sym e) record { free = free; current = k.current; counted = refl };
         later = subst (λ (y : Entry U X L). Two p (log ++ y ∷ []) (set words current_word x)) (sym e) (two_acquired k is);
+        slots = subst (λ (y : Entry U X L). Three p (after (state_of l log) y) (released (log ++ y ∷ [])) (tasks 0) tasks (set words current_word x)) (sym e) (slots_acquired k.generation t k.current idle);
+        warm = λ f z. subst (λ (y : Entry U X L). IsWarming (after (state_of l log) y) f) (sym e) record { warming = z.warming; opened = z.opened };
       })
       two.current
 
@@ -152,9 +172,9 @@ acquire_names U X L c n = by_test (n / 549755813888 == 0)
 
 module _ {D W U X L : Type 0} (p : Plan W) where
   pub acquires_current : (slots id : ℕ) (me : Me (Cell D U) (Known W U X L)) → 1 ≤ me.0.caller → me.0.caller ≤ 64 → me.0.back ≡ [] → me.0.plan ≡ Some p
-      → pinned me.0.caller me.0.mine ≡ None → count_by is_acquire me.0.mine < p.budget
+      → pinned me.0.caller me.0.mine ≡ None → me.0.task ≡ Idle → count_by is_acquire me.0.mine < p.budget
       → Allows (Kept p) slots id me current_word (λ n. (n + 1) % 2 ^ 64) (Acquired (step slots current_word 1 0 maybe.none) me)
-  acquires_current slots id me low few bare told free left s kept deep at bound =
+  acquires_current slots id me low few bare told free idle left s kept deep at bound =
       let w = kept.world in
       let k = me.0 in
       let c : ℕ = k.caller in
@@ -166,12 +186,13 @@ module _ {D W U X L : Type 0} (p : Plan W) where
       let log : List (Entry U X L) = w.log ++ e ∷ [] in
       let unpinned : (state_of (limits p) w.log).pins c ≡ None = pins_own (limits p) c w.log ∙ pinned_still c k.mine (mine c w.log) k.announced (w.pending c) calls ∙ free in
       let some : count_by is_acquire (mine c w.log) < p.budget = (let a = acquires_still c k.mine (mine c w.log) k.announced (w.pending c) calls in omega arith) in
-      let a = acquire_is p w.log s.words c x kept.words kept.legal kept.two low few some unpinned (fits p w.log s.words c x kept.words kept.legal kept.two low few some) in
+      let a = acquire_is p w.log s.words w.tasks c x kept.words kept.legal kept.two kept.three low few some unpinned (sym (all.pass low).task ∙ idle) (fits p w.log s.words w.tasks c x kept.words kept.legal kept.two kept.three low few some) in
       let names = acquire_names U X L c n in (
         record (looked k log w.pending) { hand = None },
         keeps,
         tt,
-        own_step p s kept id current_word x me e at low bare (omega arith) names.0 names.1 a.may a.later,
+        own_step p s kept id current_word x me e k.task at low bare (omega arith) names.0 names.1 a.may a.later
+            (subst (λ (z : ℕ → Task). Three p (after (state_of (limits p) w.log) e) (released log) (w.tasks 0) z (set s.words current_word x)) (λ j d. sym (put_same c k.task w.tasks (all.pass low).task d) j) a.slots) a.warm,
         record {
           made = record {
             entered = record {

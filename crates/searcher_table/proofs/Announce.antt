@@ -8,6 +8,8 @@ use Rattle.std.specs.List.{AllByRecursion}
 use Rattle.std.proofs.lemmas.Option.{same_Some, none-some}
 use Rattle.atomic_table.specs.Table.{State, Me, Act, Allows, keeps, step, stepped, Valid, carried_after}
 use Rattle.atomic_table.proofs.Lists.{exchanged}
+use Rattle.registry_machine.specs.Machine.{Limits}
+use Rattle.registry_machine.specs.Legal.{state_of}
 use Rattle.registry_machine.specs.Callers.{mine}
 use Rattle.searcher_table.specs.declared.board.Asked.{Asked}
 use Rattle.searcher_table.specs.declared.board.Cell.{Cell}
@@ -16,12 +18,13 @@ use Rattle.searcher_table.specs.declared.board.Plan.{Plan}
 use Rattle.searcher_table.specs.declared.board.Hand.{Hand}
 use Rattle.searcher_table.specs.declared.board.Own.{Own}
 use Rattle.searcher_table.specs.declared.board.Known.{Known}
-use Rattle.searcher_table.specs.Words.{call_word, code_of, code}
+use Rattle.searcher_table.specs.Words.{call_word, code_of, code, limits}
 use Rattle.searcher_table.specs.Views.{IsStill, WasExecuted, GoesOn}
-use Rattle.searcher_table.specs.Rule.{World, IsPass, IsHand, IsBack, Kept}
+use Rattle.searcher_table.specs.Rule.{World, IsPass, IsHand, IsBack, released, Kept}
 use Rattle.searcher_table.specs.Steps.{looked, HasAnnounced, Announced}
-use Rattle.searcher_table.proofs.Frame.{put, put_here, put_else, moved, Leaves, one_after, covers}
-use Rattle.searcher_table.proofs.Beside.{AreSame, call_beside, two_words}
+use Rattle.searcher_table.proofs.Frame.{put, put_here, put_else, moved, Leaves, own_task, one_after, covers}
+use Rattle.searcher_table.proofs.Beside.{AreSame, call_beside, few_slots, two_words}
+use Rattle.searcher_table.proofs.Slotted.{three_words, slots_same}
 use Rattle.searcher_table.proofs.Handing.{calls_after, another}
 
 -- a pass with nothing announced has all its caller's entries, and nothing is pending
@@ -41,20 +44,21 @@ pub said_same : {D U : Type 0} (a b : Asked U) → ◌≡◌ {A = Cell D U} (Sai
 said_same {D} {U} a b e = ap (λ (c : Cell D U). said_or a (maybe.some c)) e
 
 -- the announced call is the seat's, and whatever the others know stays true
-pub leaves : {W U X L : Type 0} (asked : Asked U) (w : World U X L) (id : ℕ) (k : Known W U X L) → IsPass w id k → w.pending k.caller ≡ None
-    → Leaves W w (moved w w.log (put k.caller (Some asked) w.pending) (put k.caller id w.hand_at)) id
-leaves {W} {U} {X} {L} asked w id k f free =
+pub leaves : {W U X L : Type 0} (l : Limits) (asked : Asked U) (w : World U X L) (id : ℕ) (k : Known W U X L) → IsPass w id k → w.pending k.caller ≡ None
+    → Leaves W l w (moved w w.log (put k.caller (Some asked) w.pending) (put k.caller id w.hand_at) w.tasks w.fresh_at) id
+leaves {W} {U} {X} {L} l asked w id k f free =
     let c : ℕ = k.caller in
     let now : ℕ → Option (Asked U) = put c (Some asked) w.pending in
     record {
       log = λ _ s. s;
       passes = λ j u other _ (g : IsPass w j u).
           let n : u.caller ≢ c = another w id j c u.caller f.here g.here other in
-          record { here = g.here; dealt = g.dealt; calls = subst (λ a. GoesOn u.caller u.mine u.announced (mine u.caller w.log) a) (sym (put_else c (Some asked) w.pending u.caller n)) g.calls };
+          record { here = g.here; dealt = g.dealt; calls = subst (λ a. GoesOn u.caller u.mine u.announced (mine u.caller w.log) a) (sym (put_else c (Some asked) w.pending u.caller n)) g.calls; task = g.task };
       hands = λ j h other (g : IsHand w j h).
           let n : h.caller ≢ c = λ e. none-some h.asked (sym free ∙ ap w.pending (sym e) ∙ g.pending) in
           record { here = put_else c id w.hand_at h.caller n ∙ g.here; pending = put_else c (Some asked) w.pending h.caller n ∙ g.pending };
-      registrars = λ j u other g. record { here = g.here; seen = g.seen; next = g.next };
+      freshes = λ j h other g. record { here = g.here; warming = g.warming };
+      registrars = λ j u other g. record { here = g.here; seen = g.seen; next = g.next; nobody = g.nobody; task = g.task };
       backs = λ j o other (g : IsBack w j o).
           let n : o.caller ≢ c = another w id j c o.caller f.here g.here other in
           record { here = g.here; dealt = g.dealt; mine = g.mine; none = put_else c (Some asked) w.pending o.caller n ∙ g.none };
@@ -94,14 +98,20 @@ module _ {D W U X L : Type 0} (p : Plan W) where
         tt,
         record {
           words = length-set s.words i new ∙ kept.words;
-          world = moved w w.log now hands;
+          world = moved w w.log now hands w.tasks w.fresh_at;
           legal = kept.legal;
-          two = two_words p w.log s.words (set s.words i new) kept.legal (subst (λ (n : ℕ). AreSame s.words (set s.words n new)) (sym at_word) (call_beside s.words c new)) kept.two;
-          one = one_after p w w.log now hands s.words (set s.words i new) s.views id k (Some hand) kept.one at (leaves asked w id k f still.1)
+          three = three_words p (state_of (limits p) w.log) (released w.log) w.tasks (few_slots p kept.two.sizes) s.words (set s.words i new) (slots_same s.words (set s.words i new) (subst (λ (n : ℕ). AreSame s.words (set s.words n new)) (sym at_word) (call_beside s.words c new))) kept.three;
+          two = two_words p w.log s.words (set s.words i new) (subst (λ (n : ℕ). AreSame s.words (set s.words n new)) (sym at_word) (call_beside s.words c new)) kept.two;
+          one = one_after p w w.log now hands w.tasks w.fresh_at id k (Some hand) k.task k.fresh s.words (set s.words i new) s.views kept.one at (leaves (limits p) asked w id k f still.1)
               (λ d l h. subst (λ (n : ℕ). slice_index (set s.words n new) (call_word d) ≡ code (now d)) (sym at_word) (calls_after s.words w.pending c new (Some asked) kept.words few is kept.one.calls d l h))
-              (λ d past. let u = kept.one.undealt d past in (put_else c (Some asked) w.pending d (λ e. let deal = f.dealt in absurd (omega arith)) ∙ u.0, u.1))
-              (λ h e. let same : hand ≡ h = same_Some hand h e in subst (λ (x : Hand U). IsHand (moved w w.log now hands) id x) same record { here = put_here c id w.hand_at; pending = put_here c (Some asked) w.pending })
-              (subst (λ (os : List (Own U X L)). AllByRecursion (IsBack (moved w w.log now hands) id) os) (sym bare) tt);
+              (λ d past. let u = kept.one.undealt d past in (put_else c (Some asked) w.pending d (λ e. let deal = f.dealt in absurd (omega arith)) ∙ u.0, u.1, u.2))
+              record {
+                hands = (λ h e. let same : hand ≡ h = same_Some hand h e in subst (λ (x : Hand U). IsHand (moved w w.log now hands w.tasks w.fresh_at) id x) same record { here = put_here c id w.hand_at; pending = put_here c (Some asked) w.pending });
+                freshes = λ h e. (let g = all.fresh h e in record { here = g.here; warming = g.warming });
+                begun = own_task p w id k all;
+                backs =
+                    (subst (λ (os : List (Own U X L)). AllByRecursion (IsBack (moved w w.log now hands w.tasks w.fresh_at) id) os) (sym bare) tt);
+              };
         },
         λ said e. subst (λ (a : Asked U). HasAnnounced a me (v, me.1)) (ap (said_or asked) e) made,
       ))

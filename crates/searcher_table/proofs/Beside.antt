@@ -1,5 +1,5 @@
 -- Steps on the words of callers leave part two of the rule.
-use Rattle.std.proofs.Common.{◌≡◌, ◌⊎◌, ℕ, ◌+◌, ◌≤◌, ◌<◌, ◌==◌, Bool, true, false, cond, List, [], ◌∷◌, ◌++◌, count_by, set, get_or-set_other, refl, sym, ap, ◌∙◌, subst, arith, inl, inr, ⊎_elim, Option, Some, None}
+use Rattle.std.proofs.Common.{◌≡◌, ℕ, ◌+◌, ◌≤◌, ◌<◌, ◌==◌, Bool, true, false, cond, List, [], ◌∷◌, ◌++◌, count_by, set, get_or-set_other, refl, sym, ap, ◌∙◌, subst, arith, inl, inr, ⊎_elim, Option, Some, None}
 use Rattle.std.specs.Prelude.{slice_index}
 use Rattle.std.specs.List.{AllByRecursion}
 use Rattle.std.proofs.lemmas.Option.{none-some}
@@ -10,14 +10,14 @@ use Rattle.registry_machine.specs.Machine.{Limits, State, after}
 use Rattle.registry_machine.specs.Legal.{CanOpen, Legal, state_of}
 use Rattle.registry_machine.proofs.Lists.{test_same}
 use Rattle.searcher_table.specs.declared.board.Plan.{Plan}
-use Rattle.searcher_table.specs.Words.{HasSizes, limits, packed, current_word, slot_word, call_word}
+use Rattle.searcher_table.specs.Words.{HasSizes, limits, packed, current_word, call_word}
 use Rattle.searcher_table.specs.Counts.{is_acquire, is_not_yet, releases, NamesCaller}
 use Rattle.searcher_table.specs.Rule.{CountsTooEarly, IsPacked, SaysCurrent, Two}
 use Rattle.searcher_table.proofs.Frame.{own_joined}
 use Rattle.searcher_table.proofs.Places.{counts_joined}
 use Rattle.searcher_table.proofs.Counts.{own_count, own_first, not_own, counts_last, balance_of_all}
 use Rattle.searcher_table.proofs.Quiet.{state_next}
-use Rattle.searcher_table.proofs.Standing.{at_open, bounded, sound}
+use Rattle.searcher_table.proofs.Standing.{bounded, sound}
 
 -- the words that part two speaks of are the same
 abbrev pub AreSame : List ℕ → List ℕ → Type 0
@@ -45,39 +45,31 @@ module _ {W U X L : Type 0} (p : Plan W) where
   pub open_below : (log : List (Entry U X L)) (slot g : ℕ) → HasSizes p → Legal (limits p) log → (state_of (limits p) log).slots slot ≡ Some g → slot < 70
   open_below log slot g s legal is = let a = (bounded (limits p) log (first_within p s) legal).below slot g is in let b = few_slots p s in omega arith
 
-  pub two_words : (log : List (Entry U X L)) (words news : List ℕ) → Legal (limits p) log → AreSame words news → Two p log words → Two p log news
-  two_words log words news legal same two = record {
+  -- where the current word alone is the same
+  pub two_slots : (log : List (Entry U X L)) (words news : List ℕ) → slice_index news current_word ≡ slice_index words current_word → Two p log words → Two p log news
+  two_slots log words news same two = record {
     sizes = two.sizes;
-    current = subst (SaysCurrent (limits p) log) (sym (same current_word (omega arith))) two.current;
-    opened = λ slot g is. let b = open_below log slot g two.sizes legal is in same (slot_word slot) (omega arith) ∙ two.opened slot g is;
-    free = λ slot low is. same (slot_word slot) (omega arith) ∙ two.free slot low is;
+    current = subst (SaysCurrent (limits p) log) (sym same) two.current;
     named = two.named;
     within = two.within;
   }
 
+  pub two_words : (log : List (Entry U X L)) (words news : List ℕ) → AreSame words news → Two p log words → Two p log news
+  two_words log words news same two = two_slots log words news (same current_word (omega arith)) two
+
 -- what a slot is open for is so after an opening in another one
-kept_open : (slots : ℕ → Option ℕ) (free x slot g : ℕ) → slots free ≡ None → slots slot ≡ Some g → cond (slot == free) (Some x) (slots slot) ≡ Some g
+pub kept_open : (slots : ℕ → Option ℕ) (free x slot g : ℕ) → slots free ≡ None → slots slot ≡ Some g → cond (slot == free) (Some x) (slots slot) ≡ Some g
 kept_open slots free x slot g none is = by_test (slot == free) refl
   where
     by_test : (b : Bool) → (slot == free) ≡ b → cond b (Some x) (slots slot) ≡ Some g
     by_test true e = absurd (none-some g (sym none ∙ ap slots (sym (test_same slot free e)) ∙ is))
     by_test false e = is
 
-was_free : (slots : ℕ → Option ℕ) (free x slot : ℕ) → cond (slot == free) (Some x) (slots slot) ≡ None → slots slot ≡ None
-was_free slots free x slot is = by_test (slot == free) is
-  where
-    by_test : (b : Bool) → cond b (Some x) (slots slot) ≡ None → slots slot ≡ None
-    by_test true e = absurd (none-some x (sym e))
-    by_test false e = e
-
--- an entry with which no count and no pin changes, though it may open a generation that was never released
+-- an entry with which no count and no pin changes, though it may open a generation
 pub record Apart {U X L : Type 0} (l : Limits) (log : List (Entry U X L)) (e : Entry U X L) : Type 0 where
   pub current : (after (state_of l log) e).current ≡ (state_of l log).current
   pub acquired : (g : ℕ) → (after (state_of l log) e).acquired g ≡ (state_of l log).acquired g
-  pub opened : (slot g : ℕ) → (after (state_of l log) e).slots slot ≡ Some g
-      → ((state_of l log).slots slot ≡ Some g) ⊎ (((state_of l log).slots slot ≡ None) × (slot < l.slots) × (count_by (releases g) log ≡ 0))
-  pub stays : (slot g : ℕ) → (state_of l log).slots slot ≡ Some g → (after (state_of l log) e).slots slot ≡ Some g
-  pub free : (slot : ℕ) → (after (state_of l log) e).slots slot ≡ None → (state_of l log).slots slot ≡ None
+  pub stays : (slot g : ℕ) → (state_of l log).current ≡ Some g → (state_of l log).slots slot ≡ Some g → (after (state_of l log) e).slots slot ≡ Some g
   pub early : is_not_yet e ≡ false
   pub acquire : is_acquire e ≡ false
   pub released : (g : ℕ) → releases g e ≡ false
@@ -95,39 +87,29 @@ module _ {U X L : Type 0} where
   not_counted q log e none = let a = counts_last q log e in let b : cond {A = ℕ} (q e) 1 0 ≡ 0 = ap (λ t. cond t 1 0) none in omega arith
 
   -- the next generation was never released
-  never_released : (l : Limits) (log : List (Entry U X L)) (g : ℕ) → Legal l log → AllByRecursion NamesCaller log → g ≡ (state_of l log).last_opened + 1 → count_by (releases g) log ≡ 0
+  pub never_released : (l : Limits) (log : List (Entry U X L)) (g : ℕ) → Legal l log → AllByRecursion NamesCaller log → g ≡ (state_of l log).last_opened + 1 → count_by (releases g) log ≡ 0
   never_released l log g legal named next =
       let a = (sound l log legal).never_above g (omega arith) in
       let b = balance_of_all l g log legal named in
       omega arith
 
-  pub opening_apart : (l : Limits) (log : List (Entry U X L)) (c : ℕ) (u : U) (g slot : ℕ) (x : X) → Legal l log → AllByRecursion NamesCaller log → CanOpen l (state_of l log) g slot → Apart l log (Open c u g slot x)
-  opening_apart l log c u g free x legal named may =
+  pub opening_apart : (l : Limits) (log : List (Entry U X L)) (c : ℕ) (u : U) (g slot : ℕ) (x : X) → CanOpen l (state_of l log) g slot → Apart l log (Open c u g slot x)
+  opening_apart l log c u g free x may =
       let s : State = state_of l log in
       record {
         current = refl;
         acquired = λ _. refl;
-        opened = λ slot h is. ⊎_elim
-            (λ (k : (slot ≡ free) × (g ≡ h)). inr (
-              ap s.slots k.0 ∙ may.free,
-              (let a = may.slot in let e = k.0 in omega arith),
-              ap (λ n. count_by (releases n) log) (sym k.1) ∙ never_released l log g legal named may.next,
-            ))
-            (λ (k : s.slots slot ≡ Some h). inl k)
-            (at_open s.slots free g slot h is);
-        stays = λ slot h is. kept_open s.slots free g slot h may.free is;
-        free = λ slot is. was_free s.slots free g slot is;
+        stays = λ slot h _ is. kept_open s.slots free g slot h may.free is;
         early = refl;
         acquire = refl;
         released = λ _. refl;
       }
 
 module _ {W U X L : Type 0} (p : Plan W) where
-  pub two_entry : (log : List (Entry U X L)) (e : Entry U X L) (words news : List ℕ) → Legal (limits p) log → AreSame words news → Apart (limits p) log e → NamesCaller e → Two p log words → Two p (log ++ e ∷ []) news
-  two_entry log e words news legal same apart named two =
+  pub two_entry : (log : List (Entry U X L)) (e : Entry U X L) (words news : List ℕ) → slice_index news current_word ≡ slice_index words current_word → Apart (limits p) log e → NamesCaller e → Two p log words → Two p (log ++ e ∷ []) news
+  two_entry log e words news word apart named two =
       let l = limits p in
       let next = state_next l log e in
-      let word = same current_word (omega arith) in
       record {
         sizes = two.sizes;
         current = ⊎_elim
@@ -139,20 +121,10 @@ module _ {W U X L : Type 0} (p : Plan W) where
               generation = k.generation;
               slot = k.slot;
               current = ap (λ (s : State). s.current) next ∙ apart.current ∙ k.current;
-              opened = ap (λ (s : State). s.slots k.slot) next ∙ apart.stays k.slot k.generation k.opened;
+              opened = ap (λ (s : State). s.slots k.slot) next ∙ apart.stays k.slot k.generation k.current k.opened;
               word_is = word ∙ k.word_is ∙ ap (packed k.generation k.slot) (sym (ap (λ (s : State). s.acquired k.generation) next ∙ apart.acquired k.generation));
             })
             two.current;
-        opened = λ slot g is. ⊎_elim
-            (λ (k : (state_of l log).slots slot ≡ Some g).
-            let b = open_below p log slot g two.sizes legal k in
-            same (slot_word slot) (omega arith) ∙ two.opened slot g k ∙ sym (not_counted (releases g) log e (apart.released g)))
-            (λ (k : ((state_of l log).slots slot ≡ None) × (slot < l.slots) × (count_by (releases g) log ≡ 0)).
-            let b = few_slots p two.sizes in
-            let a : slot < 70 = (let c = k.1 in omega arith) in
-            same (slot_word slot) (omega arith) ∙ two.free slot a k.0 ∙ sym (not_counted (releases g) log e (apart.released g) ∙ k.2))
-            (apart.opened slot g (sym (ap (λ (s : State). s.slots slot) next) ∙ is));
-        free = λ slot low is. same (slot_word slot) (omega arith) ∙ two.free slot low (apart.free slot (sym (ap (λ (s : State). s.slots slot) next) ∙ is));
         named = all_snoc NamesCaller log e two.named named;
         within = λ c. let a = own_last c is_acquire log e in let b = not_own c is_acquire e apart.acquire in let w = two.within c in omega arith;
       }

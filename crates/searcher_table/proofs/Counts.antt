@@ -1,5 +1,5 @@
 -- What is counted in a history: acquires and releases, by caller and in all.
-use Rattle.std.proofs.Common.{◌≡◌, ℕ, zero, suc, ◌+◌, ◌*◌, ◌≤◌, ◌==◌, Bool, true, false, cond, eq-eqb, ne_eqb, List, [], ◌∷◌, ◌++◌, fold, count_by, refl, sym, ap, ◌∙◌, arith, Option, Some, None, IfSome}
+use Rattle.std.proofs.Common.{◌≡◌, ℕ, zero, suc, ◌+◌, ◌*◌, ◌<◌, ◌≤◌, ◌==◌, Bool, true, false, cond, eq-eqb, ne_eqb, List, [], ◌∷◌, ◌++◌, fold, count_by, refl, sym, ap, ◌∙◌, arith, Option, Some, None, IfSome}
 use mathlib.Core.Logic.{dite}
 use native.Mathlib.Decide.{ℕ_discrete}
 use Rattle.std.specs.List.{AllByRecursion}
@@ -46,6 +46,14 @@ pub total_zero : (n : ℕ) (f : ℕ → ℕ) → ((c : ℕ) → 1 ≤ c → c �
 unfolding total
 total_zero zero f none = refl
 total_zero (suc n) f none = let a = none (suc n) (omega arith) (omega arith) in let r = total_zero n f (λ c low high. none c low (omega arith)) in omega arith
+
+-- who has some of it
+pub some_of : (n : ℕ) (f : ℕ → ℕ) → 0 < total n f → (c : ℕ) × (1 ≤ c) × (c ≤ n) × (0 < f c)
+unfolding total
+some_of zero f some = absurd (omega arith)
+some_of (suc n) f some = dite (ℕ_discrete (f (suc n)) 0)
+    (λ none. let k = some_of n f (omega arith) in (k.0, k.1, (let a = k.2 in omega arith), k.3))
+    (λ here. (suc n, omega arith, omega arith, omega arith))
 
 -- what one of them has
 pub total_one : (n d w : ℕ) → 1 ≤ d → d ≤ n → total n (λ c. cond (d == c) w 0) ≡ w

@@ -1,5 +1,5 @@
 -- Dealing a pass keeps the rule: the next caller has announced nothing and has no entries.
-use Rattle.std.proofs.Common.{◌≡◌, ℕ, ◌+◌, ◌<◌, List, length, set, true, true≢false, sym, refl, ap, ◌∙◌, inl, arith}
+use Rattle.std.proofs.Common.{◌≡◌, ℕ, ◌+◌, ◌≤◌, ◌<◌, List, length, set, true, true≢false, sym, refl, ap, ◌∙◌, inl, arith}
 use Rattle.std.proofs.lemmas.Option.{none-some}
 use Rattle.atomic_table.specs.Table.{Splits}
 use Rattle.searcher_table.specs.declared.board.Plan.{Plan}
@@ -23,14 +23,15 @@ module _ {W U X L : Type 0} where
     plan = f.plan;
     seen = f.seen;
     told = f.told;
-    pass = λ c. let g = f.pass c in record { here = still w n j k.caller g.here g.dealt; dealt = (let d = g.dealt in omega arith); calls = g.calls };
+    pass = λ c. let g = f.pass c in record { here = still w n j k.caller g.here g.dealt; dealt = (let d = g.dealt in omega arith); calls = g.calls; task = g.task };
     hand = λ h e. let g = f.hand h e in record { here = g.here; pending = g.pending };
+    fresh = λ h e. let g = f.fresh h e in record { here = g.here; warming = g.warming };
     registrar = registrar;
     back = all_map (IsBack w j) (IsBack (dealt w n) j) (λ o g. record { here = still w n j o.caller g.here g.dealt; dealt = (let d = g.dealt in omega arith); mine = g.mine; none = g.none }) k.back f.back;
   }
 
-  pub deals : {D : Type 0} (p : Plan W) (id : ℕ) (k : Known W U X L) → k.registrar ≡ true → Splits (Kept {D = D} p) id k (keeps_others k) (dealt_out k)
-  deals p id k role s kept at =
+  pub deals : {D : Type 0} (p : Plan W) (id : ℕ) (k : Known W U X L) → k.registrar ≡ true → k.next ≤ p.callers → Splits (Kept {D = D} p) id k (keeps_others k) (dealt_out k)
+  deals p id k role left_over s kept at =
       let w = kept.world in
       let f = kept.one.fits id k at in
       let r = f.registrar role in
@@ -43,11 +44,12 @@ module _ {W U X L : Type 0} where
         world = v;
         legal = kept.legal;
         two = kept.two;
+        three = kept.three;
         one = record {
           calls = kept.one.calls;
           fits = each_snoc (Fits p v) left (dealt_out k)
               (each_set (Fits p v) s.views id (keeps_others k)
-              (fits_still p w n id (k.next + 1) k (λ _. record { here = r.here; seen = r.seen; next = ap (λ m. m + 1) r.next }) f)
+              (fits_still p w n id (k.next + 1) k (λ _. record { here = r.here; seen = r.seen; next = ap (λ m. m + 1) r.next; nobody = r.nobody; task = r.task }) f)
               (λ j u other e. fits_still p w n j u.next u (λ x. let g = (kept.one.fits j u e).registrar x in absurd (other (sym g.here ∙ r.here))) (kept.one.fits j u e)))
               record {
                 plan = f.plan;
@@ -57,11 +59,15 @@ module _ {W U X L : Type 0} where
                   here = ap (put w.next n w.pass_at) r.next ∙ put_here w.next n w.pass_at;
                   dealt = (let e = r.next in omega arith);
                   calls = inl record { mine = free.1; announced = free.0 };
+                  task = sym free.2;
                 };
                 hand = λ h e. absurd (none-some h e);
+                fresh = λ h e. absurd (none-some h e);
                 registrar = λ x. absurd (true≢false (sym x));
                 back = tt;
               };
           undealt = λ c past. kept.one.undealt c (omega arith);
+          first = omega arith;
+          few = (let e = r.next in omega arith);
         };
       }

@@ -1,5 +1,7 @@
 -- What every kind of step's proof uses: facts about the views of all seats, and what a step leaves true of the other seats.
-use Rattle.std.proofs.Common.{◌≡◌, ◌≢◌, ◌⊎◌, ℕ, zero, suc, ◌≤◌, cond, eq-eqb, ne_eqb, List, [], ◌∷◌, ◌++◌, length, get_or, set, sym, refl, ap, ◌∙◌, subst, inl, inr, ⊎_elim, arith, append-nil, append_assoc, Option, Some, None}
+use Rattle.std.proofs.Common.{◌≡◌, ◌≢◌, ◌⊎◌, ℕ, zero, suc, ◌≤◌, true, cond, eq-eqb, ne_eqb, List, [], ◌∷◌, ◌++◌, length, get_or, set, sym, refl, ap, ◌∙◌, subst, inl, inr, ⊎_elim, arith, append-nil, append_assoc, Option, Some, None}
+use mathlib.Core.Logic.{dite}
+use native.Mathlib.Decide.{ℕ_discrete}
 use mathlib.Core.Option.{some, some-injective, some-ne-none}
 use lib.ListN.{get_elem?}
 use Rattle.std.specs.Prelude.{◌==◌, slice_index}
@@ -9,7 +11,7 @@ use Rattle.atomic_table.proofs.Lists.{at_set}
 use Rattle.registry_machine.specs.declared.entry.Entry.{Entry}
 use Rattle.registry_machine.specs.Callers.{mine}
 use Rattle.registry_machine.specs.Entries.{caller_of}
-use Rattle.registry_machine.specs.Machine.{is_some_of}
+use Rattle.registry_machine.specs.Machine.{Limits, is_some_of}
 use Rattle.registry_machine.specs.Legal.{Legal}
 use Rattle.searcher_table.specs.declared.board.Asked.{Asked}
 use Rattle.searcher_table.specs.declared.board.Plan.{Plan}
@@ -18,7 +20,10 @@ use Rattle.searcher_table.specs.declared.board.Own.{Own}
 use Rattle.searcher_table.specs.declared.board.Known.{Known}
 use Rattle.searcher_table.specs.Words.{call_word, code, limits}
 use Rattle.searcher_table.specs.Views.{StartsWith}
-use Rattle.searcher_table.specs.Rule.{World, IsPass, IsHand, IsRegistrar, IsBack, Fits, One}
+use Rattle.searcher_table.specs.declared.board.Task.{Task}
+use Rattle.searcher_table.specs.declared.board.Task.TheVariants.{Idle}
+use Rattle.searcher_table.specs.declared.board.Fresh.{Fresh}
+use Rattle.searcher_table.specs.Rule.{World, IsPass, IsHand, IsFresh, IsRegistrar, IsBack, Fits, One}
 use Rattle.searcher_table.specs.Steps.{looked, Covers}
 
 module _ {A : Type 0} where
@@ -50,6 +55,11 @@ module _ {A : Type 0} where
   all_map F G f [] all = tt
   all_map F G f (x ∷ xs) all = (f x all.0, all_map F G f xs all.1)
 
+  -- and of two lists joined
+  pub all_joined : (F : A → Type 0) (xs ys : List A) → AllByRecursion F xs → AllByRecursion F ys → AllByRecursion F (xs ++ ys)
+  all_joined F [] ys a b = b
+  all_joined F (x ∷ xs) ys a b = (a.0, all_joined F xs ys a.1 b)
+
   -- and so of the last
   pub all_last : (F : A → Type 0) (xs : List A) (a : A) → AllByRecursion F (xs ++ a ∷ []) → F a
   all_last F [] a all = all.0
@@ -80,6 +90,9 @@ module _ {A : Type 0} where
   pub put_else : (c : ℕ) (a : A) (f : ℕ → A) (d : ℕ) → d ≢ c → put c a f d ≡ f d
   put_else c a f d n = ap (λ b. cond b a (f d)) (ne_eqb d c n)
 
+  pub put_same : (c : ℕ) (a : A) (f : ℕ → A) → a ≡ f c → (d : ℕ) → put c a f d ≡ f d
+  put_same c a f is d = dite (ℕ_discrete d c) (λ same. ap (put c a f) same ∙ put_here c a f ∙ is ∙ ap f (sym same)) (λ other. put_else c a f d other)
+
 -- ---- a caller's own entries
 
 module _ {U X L : Type 0} where
@@ -89,60 +102,79 @@ module _ {U X L : Type 0} where
 -- ---- a step
 
 module _ {U X L : Type 0} where
-  -- a step changes the history, what is pending and whose the pending calls are
-  abbrev pub moved : World U X L → List (Entry U X L) → (ℕ → Option (Asked U)) → (ℕ → ℕ) → World U X L
-  moved w log pending hand_at = record w { log = log; pending = pending; hand_at = hand_at }
+  -- a step changes the history, what is pending and whose the pending calls are, what is begun, and whose the warming generations are
+  abbrev pub moved : World U X L → List (Entry U X L) → (ℕ → Option (Asked U)) → (ℕ → ℕ) → (ℕ → Task) → (ℕ → ℕ) → World U X L
+  moved w log pending hand_at tasks fresh_at = record w { log = log; pending = pending; hand_at = hand_at; tasks = tasks; fresh_at = fresh_at }
 
 -- what the step leaves true of the other seats
-pub record Leaves {U X L : Type 0} (W : Type 0) (w v : World U X L) (id : ℕ) : Type 0 where
+pub record Leaves {U X L : Type 0} (W : Type 0) (l : Limits) (w v : World U X L) (id : ℕ) : Type 0 where
   pub log : (seen : List (Entry U X L)) → StartsWith w.log seen → StartsWith v.log seen
   pub passes : (j : ℕ) (k : Known W U X L) → j ≢ id → 1 ≤ k.caller → IsPass w j k → IsPass v j k
   pub hands : (j : ℕ) (h : Hand U) → j ≢ id → IsHand w j h → IsHand v j h
+  pub freshes : (j : ℕ) (f : Fresh) → j ≢ id → IsFresh w j l f → IsFresh v j l f
   pub registrars : (j : ℕ) (k : Known W U X L) → j ≢ id → IsRegistrar w j k → IsRegistrar v j k
   pub backs : (j : ℕ) (o : Own U X L) → j ≢ id → IsBack w j o → IsBack v j o
 
 module _ {W U X L : Type 0} where
-  pub fits_still : (p : Plan W) (w v : World U X L) (id : ℕ) → Leaves W w v id → (j : ℕ) (k : Known W U X L) → j ≢ id → Fits p w j k → Fits p v j k
+  pub fits_still : (p : Plan W) (w v : World U X L) (id : ℕ) → Leaves W (limits p) w v id → (j : ℕ) (k : Known W U X L) → j ≢ id → Fits p w j k → Fits p v j k
   fits_still p w v id keeps j k other f = record {
     plan = f.plan;
     seen = keeps.log k.seen f.seen;
     told = keeps.log k.told f.told;
     pass = λ c. keeps.passes j k other c (f.pass c);
     hand = λ h e. keeps.hands j h other (f.hand h e);
+    fresh = λ h e. keeps.freshes j h other (f.fresh h e);
     registrar = λ r. keeps.registrars j k other (f.registrar r);
     back = all_map (IsBack w j) (IsBack v j) (λ o b. keeps.backs j o other b) k.back f.back;
   }
 
-  -- what the seat that makes the step knows afterwards is true
-  pub fits_now : (p : Plan W) (w : World U X L) (log : List (Entry U X L)) (pending : ℕ → Option (Asked U)) (hand_at : ℕ → ℕ) (id : ℕ) (k : Known W U X L) (hand : Option (Hand U))
-      → Fits p w id k → ((h : Hand U) → hand ≡ Some h → IsHand (moved w log pending hand_at) id h) → AllByRecursion (IsBack (moved w log pending hand_at) id) k.back
-      → Fits p (moved w log pending hand_at) id (record (looked k log pending) { hand = hand })
-  fits_now p w log pending hand_at id k hand f has back = record {
-    plan = f.plan;
-    seen = starts_here log;
-    told = (log, refl);
-    pass = λ c. record { here = (f.pass c).here; dealt = (f.pass c).dealt; calls = inl record { mine = refl; announced = refl } };
-    hand = has;
-    registrar = λ r. record { here = (f.registrar r).here; seen = record { rest = []; grown = sym (append-nil log); quiet = tt }; next = (f.registrar r).next };
-    back = back;
-  }
+  -- a pass or the registrar, and what it has begun
+  abbrev pub Acts : Known W U X L → Type 0
+  Acts k = (1 ≤ k.caller) ⊎ (k.registrar ≡ true)
 
-  -- part one after the step
-  pub one_after : (p : Plan W) (w : World U X L) (log : List (Entry U X L)) (pending : ℕ → Option (Asked U)) (hand_at : ℕ → ℕ) (words news : List ℕ) (views : List (Known W U X L)) (id : ℕ) (k : Known W U X L) (hand : Option (Hand U))
-      → One p w words views → get_elem? views id ≡ some k → Leaves W w (moved w log pending hand_at) id
-      → ((c : ℕ) → 1 ≤ c → c ≤ 64 → slice_index news (call_word c) ≡ code (pending c))
-      → ((c : ℕ) → w.next ≤ c → (pending c ≡ None) × (mine c log ≡ []))
-      → ((h : Hand U) → hand ≡ Some h → IsHand (moved w log pending hand_at) id h) → AllByRecursion (IsBack (moved w log pending hand_at) id) k.back
-      → One p (moved w log pending hand_at) news (set views id (record (looked k log pending) { hand = hand }))
-  one_after p w log pending hand_at words news views id k hand one at keeps calls undealt has back =
-      let v : World U X L = moved w log pending hand_at in
-      record {
-        calls = calls;
-        fits = each_set (Fits p v) views id (record (looked k log pending) { hand = hand })
-            (fits_now p w log pending hand_at id k hand (one.fits id k at) has back)
-            (λ j u other e. fits_still p w v id keeps j u other (one.fits j u e));
-        undealt = undealt;
-      }
+  pub own_task : (p : Plan W) (w : World U X L) (id : ℕ) (k : Known W U X L) → Fits p w id k → Acts k → k.task ≡ w.tasks k.caller
+  own_task p w id k f acts = ⊎_elim (λ c. (f.pass c).task) (λ r. (f.registrar r).task ∙ ap w.tasks (sym (f.registrar r).nobody)) acts
+
+  module _ (p : Plan W) (w : World U X L) (log : List (Entry U X L)) (pending : ℕ → Option (Asked U)) (hand_at : ℕ → ℕ) (tasks : ℕ → Task) (fresh_at : ℕ → ℕ) (id : ℕ) (k : Known W U X L) (hand : Option (Hand U)) (task : Task) (fresh : Option Fresh) where
+    -- the table after the step, what the seat that makes it knows then, and that it is true
+    abbrev pub now : World U X L
+    now = moved w log pending hand_at tasks fresh_at
+
+    abbrev pub knowing : Known W U X L
+    knowing = record (looked k log pending) { hand = hand; task = task; fresh = fresh }
+
+    pub record Owns : Type 0 where
+      pub hands : (h : Hand U) → hand ≡ Some h → IsHand now id h
+      pub freshes : (f : Fresh) → fresh ≡ Some f → IsFresh now id (limits p) f
+      pub begun : Acts k → task ≡ tasks k.caller
+      pub backs : AllByRecursion (IsBack now id) k.back
+
+    pub fits_now : Fits p w id k → Owns → Fits p now id knowing
+    fits_now f own = record {
+      plan = f.plan;
+      seen = starts_here log;
+      told = (log, refl);
+      pass = λ c. record { here = (f.pass c).here; dealt = (f.pass c).dealt; calls = inl record { mine = refl; announced = refl }; task = own.begun (inl c) };
+      hand = own.hands;
+      fresh = own.freshes;
+      registrar = λ r. record { here = (f.registrar r).here; seen = record { rest = []; grown = sym (append-nil log); quiet = tt }; next = (f.registrar r).next; nobody = (f.registrar r).nobody; task = own.begun (inr r) ∙ ap tasks (f.registrar r).nobody };
+      back = own.backs;
+    }
+
+    -- part one after the step
+    pub one_after : (words news : List ℕ) (views : List (Known W U X L)) → One p w words views → get_elem? views id ≡ some k → Leaves W (limits p) w now id
+        → ((c : ℕ) → 1 ≤ c → c ≤ 64 → slice_index news (call_word c) ≡ code (pending c))
+        → ((c : ℕ) → w.next ≤ c → (pending c ≡ None) × (mine c log ≡ []) × (tasks c ≡ Idle))
+        → Owns → One p now news (set views id knowing)
+    one_after words news views one at keeps calls undealt own = record {
+      calls = calls;
+      fits = each_set (Fits p now) views id knowing
+          (fits_now (one.fits id k at) own)
+          (λ j u other e. fits_still p w now id keeps j u other (one.fits j u e));
+      undealt = undealt;
+      first = one.first;
+      few = one.few;
+    }
 
   -- the history of the table covers what a seat knows of it
   pub covers : (p : Plan W) (w : World U X L) (id : ℕ) (k : Known W U X L) → Fits p w id k → Legal (limits p) w.log → Covers k w.log

@@ -14,6 +14,14 @@ pub mod Counts
 pub mod Standing
 pub mod Beside
 pub mod Current
+pub mod Slotted
+pub mod Slotting
+pub mod Turning
+pub mod Bits
+pub mod Claiming
+pub mod Preparing
+pub mod Freeing
+pub mod Room
 pub mod OwnStep
 pub mod Acquire
 pub mod Release

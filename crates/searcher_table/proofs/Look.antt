@@ -6,15 +6,16 @@ use Rattle.std.specs.Prelude.{slice_index}
 use Rattle.atomic_table.specs.Table.{Me, Allows, keeps, step}
 use Rattle.std.proofs.lemmas.Option.{same_Some}
 use Rattle.registry_machine.specs.declared.entry.Entry.{Entry}
-use Rattle.registry_machine.specs.Legal.{Legal}
+use Rattle.registry_machine.specs.Legal.{Legal, state_of}
 use Rattle.searcher_table.specs.declared.board.Cell.{Cell}
 use Rattle.searcher_table.specs.declared.board.Plan.{Plan}
 use Rattle.searcher_table.specs.declared.board.Known.{Known}
 use Rattle.searcher_table.specs.Words.{call_word, current_word, code, limits}
-use Rattle.searcher_table.specs.Rule.{Two, Kept}
+use Rattle.searcher_table.specs.Tasks.{Three}
+use Rattle.searcher_table.specs.Rule.{Two, released, Kept}
 use Rattle.searcher_table.specs.Steps.{looked, TellsCurrent, Looked, Peeked}
 use Rattle.searcher_table.proofs.Current.{tells}
-use Rattle.searcher_table.proofs.Frame.{set_same, one_after, covers}
+use Rattle.searcher_table.proofs.Frame.{set_same, own_task, one_after, covers}
 
 module _ {D W U X L : Type 0} (p : Plan W) where
   -- a word is read, and what is told may rest on what the rule says of it
@@ -33,10 +34,11 @@ module _ {D W U X L : Type 0} (p : Plan W) where
           world = w;
           legal = kept.legal;
           two = subst (Two p w.log) (sym same) kept.two;
-          one = one_after p w w.log w.pending w.hand_at s.words (set s.words i (get_or s.words i 0)) s.views id me.0 me.0.hand kept.one at
-              record { log = λ _ t. t; passes = λ _ _ _ _ t. t; hands = λ _ _ _ t. t; registrars = λ _ _ _ t. t; backs = λ _ _ _ t. t }
+          three = subst (Three p (state_of (limits p) w.log) (released w.log) (w.tasks 0) w.tasks) (sym same) kept.three;
+          one = one_after p w w.log w.pending w.hand_at w.tasks w.fresh_at id me.0 me.0.hand me.0.task me.0.fresh s.words (set s.words i (get_or s.words i 0)) s.views kept.one at
+              record { log = λ _ t. t; passes = λ _ _ _ _ t. t; hands = λ _ _ _ t. t; freshes = λ _ _ _ t. t; registrars = λ _ _ _ t. t; backs = λ _ _ _ t. t }
               (λ c low high. subst (λ (ws : List ℕ). slice_index ws (call_word c) ≡ code (w.pending c)) (sym same) (kept.one.calls c low high))
-              kept.one.undealt f.hand f.back;
+              kept.one.undealt record { hands = f.hand; freshes = f.fresh; begun = own_task p w id me.0 f; backs = f.back };
         },
         told w.log s.words (looked me.0 w.log w.pending, me.1) kept.two kept.legal record {
           log = w.log;

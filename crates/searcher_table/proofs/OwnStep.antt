@@ -9,6 +9,8 @@ use Rattle.atomic_table.specs.Table.{State, Me, stepped, keeps}
 use Rattle.registry_machine.specs.declared.entry.Entry.{Entry}
 use Rattle.registry_machine.specs.declared.entry.Entry.TheVariants.{Open, TooMany, GenerationsSpent, Update, Finish, Superseded, Acquire, NotYet, Release, Free}
 use Rattle.registry_machine.specs.Entries.{caller_of, has_place}
+use Rattle.registry_machine.specs.Machine.{Limits, after}
+use Rattle.registry_machine.specs.Machine.{State as MachineState}
 use Rattle.registry_machine.specs.Legal.{IsAllowed, state_of}
 use Rattle.searcher_table.specs.declared.board.Asked.{Asked}
 use Rattle.searcher_table.specs.declared.board.Call.{Call}
@@ -19,9 +21,13 @@ use Rattle.searcher_table.specs.declared.board.Known.{Known}
 use Rattle.searcher_table.specs.Words.{call_word, limits}
 use Rattle.searcher_table.specs.Counts.{is_acquire, pin_after, pinned}
 use Rattle.searcher_table.specs.Views.{call_of, IsStill, WasExecuted, GoesOn}
-use Rattle.searcher_table.specs.Rule.{World, IsPass, IsHand, IsRegistrar, IsBack, Two, Kept}
+use Rattle.searcher_table.specs.Rule.{World, IsPass, IsHand, IsRegistrar, IsBack, Two, released, Kept}
 use Rattle.searcher_table.specs.Steps.{looked}
-use Rattle.searcher_table.proofs.Frame.{moved, Leaves, starts_later, one_after}
+use Rattle.searcher_table.specs.declared.board.Task.{Task}
+use Rattle.searcher_table.specs.declared.board.Fresh.{Fresh}
+use Rattle.searcher_table.specs.Tasks.{IsWarming, Three}
+use Rattle.searcher_table.proofs.Quiet.{state_next}
+use Rattle.searcher_table.proofs.Frame.{put, put_here, put_else, moved, Leaves, starts_later, one_after}
 use Rattle.searcher_table.proofs.Handing.{another}
 use Rattle.searcher_table.proofs.Execute.{no_entry, grows_legal}
 use Rattle.searcher_table.proofs.Counts.{counts_last}
@@ -63,17 +69,20 @@ module _ {U X L : Type 0} where
       calls
 
 module _ {U X L : Type 0} (w : World U X L) (c id : ℕ) (e : Entry U X L) (named : caller_of e ≡ Some c) (placeless : has_place e ≡ false) (here : w.pass_at c ≡ id) where
-  leaves : (W : Type 0) → Leaves W w (moved w (w.log ++ e ∷ []) w.pending w.hand_at) id
-  leaves W = record {
+  leaves : (W : Type 0) (l : Limits) (task : Task) → 1 ≤ c → ((f : Fresh) → IsWarming (state_of l w.log) f → IsWarming (state_of l (w.log ++ e ∷ [])) f) → Leaves W l w (moved w (w.log ++ e ∷ []) w.pending w.hand_at (put c task w.tasks) w.fresh_at) id
+  leaves W l task low warm = record {
     log = λ seen s. starts_later w.log seen (e ∷ []) s;
     passes = λ j k other _ (g : IsPass w j k).
         let n : k.caller ≢ c = another w id j c k.caller here g.here other in
-        record { here = g.here; dealt = g.dealt; calls = subst (λ (es : List (Entry U X L)). GoesOn k.caller k.mine k.announced es (w.pending k.caller)) (sym (no_entry c k.caller w.log e named n)) g.calls };
+        record { here = g.here; dealt = g.dealt; calls = subst (λ (es : List (Entry U X L)). GoesOn k.caller k.mine k.announced es (w.pending k.caller)) (sym (no_entry c k.caller w.log e named n)) g.calls; task = g.task ∙ sym (put_else c task w.tasks k.caller n) };
+    freshes = λ j f other g. record { here = g.here; warming = warm f g.warming };
     hands = λ j h other (g : IsHand w j h). record { here = g.here; pending = g.pending };
     registrars = λ j k other (g : IsRegistrar w j k). record {
       here = g.here;
       seen = record { rest = g.seen.rest ++ e ∷ []; grown = ap (λ l. l ++ e ∷ []) g.seen.grown ∙ append_assoc k.seen g.seen.rest (e ∷ []); quiet = all_snoc (λ x. has_place x ≡ false) g.seen.rest e g.seen.quiet placeless };
       next = g.next;
+      nobody = g.nobody;
+      task = g.task ∙ sym (put_else c task w.tasks 0 (λ z. absurd (omega arith)));
     };
     backs = λ j o other (g : IsBack w j o).
         let n : o.caller ≢ c = another w id j c o.caller here g.here other in
@@ -81,25 +90,37 @@ module _ {U X L : Type 0} (w : World U X L) (c id : ℕ) (e : Entry U X L) (name
   }
 
 module _ {D W U X L : Type 0} (p : Plan W) where
-  pub own_step : (s : State (Cell D U) (Known W U X L)) (kept : Kept p s) (id i x : ℕ) (me : Me (Cell D U) (Known W U X L)) (e : Entry U X L) → get_elem? s.views id ≡ some me.0 → 1 ≤ me.0.caller → me.0.back ≡ [] → i < 640
+  pub own_step : (s : State (Cell D U) (Known W U X L)) (kept : Kept p s) (id i x : ℕ) (me : Me (Cell D U) (Known W U X L)) (e : Entry U X L) (task : Task) → get_elem? s.views id ≡ some me.0 → 1 ≤ me.0.caller → me.0.back ≡ [] → i < 640
       → caller_of e ≡ Some me.0.caller → has_place e ≡ false → IsAllowed (limits p) (state_of (limits p) kept.world.log) e → Two p (kept.world.log ++ e ∷ []) (set s.words i x)
-      → Kept p (stepped s i x id me.1 (record (looked me.0 (kept.world.log ++ e ∷ []) kept.world.pending) { hand = None }) keeps)
-  own_step s kept id i x me e at low bare below named placeless may two =
+      → Three p (after (state_of (limits p) kept.world.log) e) (released (kept.world.log ++ e ∷ [])) (kept.world.tasks 0) (put me.0.caller task kept.world.tasks) (set s.words i x)
+      → ((f : Fresh) → IsWarming (state_of (limits p) kept.world.log) f → IsWarming (after (state_of (limits p) kept.world.log) e) f)
+      → Kept p (stepped s i x id me.1 (record (looked me.0 (kept.world.log ++ e ∷ []) kept.world.pending) { hand = None; task = task; fresh = me.0.fresh }) keeps)
+  own_step s kept id i x me e task at low bare below named placeless may two three warm =
       let w = kept.world in
       let k = me.0 in
       let c : ℕ = k.caller in
+      let l = limits p in
       let log : List (Entry U X L) = w.log ++ e ∷ [] in
-      let f = (kept.one.fits id k at).pass low in
+      let all = kept.one.fits id k at in
+      let f = all.pass low in
+      let tasks : ℕ → Task = put c task w.tasks in
+      let next = state_next l w.log e in
+      let warm_after : (g : Fresh) → IsWarming (state_of l w.log) g → IsWarming (state_of l log) g = λ g z. subst (λ (n : MachineState). IsWarming n g) (sym next) (warm g z) in
       record {
         words = length-set s.words i x ∙ kept.words;
-        world = moved w log w.pending w.hand_at;
-        legal = grows_legal (limits p) w.log e kept.legal may;
+        world = moved w log w.pending w.hand_at tasks w.fresh_at;
+        legal = grows_legal l w.log e kept.legal may;
         two = two;
-        one = one_after p w log w.pending w.hand_at s.words (set s.words i x) s.views id k None kept.one at (leaves w c id e named placeless f.here W)
+        three = subst (λ (z : MachineState × Task). Three p z.0 (released log) z.1 tasks (set s.words i x)) (λ j. (sym next j, sym (put_else c task w.tasks 0 (λ z. absurd (omega arith))) j)) three;
+        one = one_after p w log w.pending w.hand_at tasks w.fresh_at id k None task k.fresh s.words (set s.words i x) s.views kept.one at (leaves w c id e named placeless f.here W l task low warm_after)
             (λ d l h. get_or-set_other s.words i (call_word d) x 0 (λ z. absurd (omega arith)) ∙ kept.one.calls d l h)
             (λ d past. let u = kept.one.undealt d past in
             let n : d ≢ c = λ same. (let deal = f.dealt in absurd (omega arith)) in
-            (u.0, no_entry c d w.log e named n ∙ u.1))
-            (λ h z. absurd (none-some h z))
-            (subst (λ (os : List (Own U X L)). AllByRecursion (IsBack (moved w log w.pending w.hand_at) id) os) (sym bare) tt);
+            (u.0, no_entry c d w.log e named n ∙ u.1, put_else c task w.tasks d n ∙ u.2))
+            record {
+              hands = λ h z. absurd (none-some h z);
+              freshes = λ g z. let h = all.fresh g z in record { here = h.here; warming = warm_after g h.warming };
+              begun = λ _. sym (put_here c task w.tasks);
+              backs = subst (λ (os : List (Own U X L)). AllByRecursion (IsBack (moved w log w.pending w.hand_at tasks w.fresh_at) id) os) (sym bare) tt;
+            };
       }

@@ -8,6 +8,8 @@ use Rattle.searcher_table.specs.declared.board.Asked.{Asked}
 use Rattle.searcher_table.specs.declared.board.Plan.{Plan}
 use Rattle.searcher_table.specs.declared.board.Hand.{Hand}
 use Rattle.searcher_table.specs.declared.board.Known.{Known}
+use Rattle.searcher_table.specs.declared.board.Task.{Task}
+use Rattle.searcher_table.specs.declared.board.Fresh.{Fresh}
 use Rattle.searcher_table.specs.declared.pass.Pass.{Pass}
 use Rattle.searcher_table.specs.Words.{limits}
 use Rattle.searcher_table.specs.Views.{StartsWith, GoesOn}
@@ -31,8 +33,8 @@ pub record Knows {W U X L : Type 0} (k n : Known W U X L) (log : List (Entry U X
   pub back : n.back ≡ k.back
 
 module _ {S W U X L : Type 0} where
-  pub knows : (me new : Me S (Known W U X L)) (log : List (Entry U X L)) (pending : ℕ → Option (Asked U)) (hand : Option (Hand U))
-      → new ≡ (record (looked me.0 log pending) { hand = hand }, me.1) → Knows me.0 new.0 log pending hand
+  pub knows : {task : Task} {fresh : Option Fresh} (me new : Me S (Known W U X L)) (log : List (Entry U X L)) (pending : ℕ → Option (Asked U)) (hand : Option (Hand U))
+      → new ≡ (record (looked me.0 log pending) { hand = hand; task = task; fresh = fresh }, me.1) → Knows me.0 new.0 log pending hand
   knows me new log pending hand is = record {
     plan = ap (λ (m : Me S (Known W U X L)). m.0.plan) is;
     caller = ap (λ (m : Me S (Known W U X L)). m.0.caller) is;

@@ -1,5 +1,5 @@
 -- Entries without a place leave the registry's openings as they are.
-use Rattle.std.proofs.Common.{◌≡◌, ℕ, List, [], ◌∷◌, ◌++◌, fold, true, false, cond, refl, sym, ap, ◌∙◌, subst, Option, None}
+use Rattle.std.proofs.Common.{◌≡◌, ℕ, List, [], ◌∷◌, ◌++◌, fold, true, false, cond, append-nil, append_assoc, refl, sym, ap, ◌∙◌, subst, Option, None}
 use Rattle.std.specs.List.{AllByRecursion}
 use Rattle.registry_machine.specs.declared.entry.Entry.{Entry}
 use Rattle.registry_machine.specs.declared.entry.Entry.TheVariants.{Open, TooMany, GenerationsSpent, Update, Finish, Superseded, Acquire, NotYet, Release, Free}
@@ -9,6 +9,7 @@ use Rattle.registry_machine.specs.Legal.{state_of}
 use Rattle.registry_machine.proofs.Lists.{true_and_false}
 use Rattle.registry_machine.proofs.Runs.{state_joined}
 use Rattle.searcher_table.specs.Views.{HasNoPlaceSince}
+use Rattle.searcher_table.proofs.Frame.{all_joined}
 
 -- the same generations were opened and are warming, and a slot that was open for none still is
 pub record HasSameOpenings (s t : State) : Type 0 where
@@ -19,7 +20,21 @@ pub record HasSameOpenings (s t : State) : Type 0 where
 pub same_trans : (s t u : State) → HasSameOpenings s t → HasSameOpenings t u → HasSameOpenings s u
 same_trans s t u a b = record { last = b.last ∙ a.last; warming = b.warming ∙ a.warming; free = λ slot e. b.free slot (a.free slot e) }
 
+pub same_openings : (s t : State) → t ≡ s → HasSameOpenings s t
+same_openings s t same = subst (HasSameOpenings s) (sym same) record { last = refl; warming = refl; free = λ _ e. e }
+
 module _ {U X L : Type 0} where
+  -- entries without a place are none where there are none
+  pub quiet_here : (log : List (Entry U X L)) → HasNoPlaceSince log log
+  quiet_here log = record { rest = []; grown = sym (append-nil log); quiet = tt }
+
+  pub quiet_trans : (a b c : List (Entry U X L)) → HasNoPlaceSince b a → HasNoPlaceSince c b → HasNoPlaceSince c a
+  quiet_trans a b c x y = record {
+    rest = x.rest ++ y.rest;
+    grown = y.grown ∙ ap (λ l. l ++ y.rest) x.grown ∙ append_assoc a x.rest y.rest;
+    quiet = all_joined (λ e. has_place e ≡ false) x.rest y.rest x.quiet y.quiet;
+  }
+
   pub quiet_step : (s : State) (e : Entry U X L) → has_place e ≡ false → HasSameOpenings s (after s e)
   quiet_step s (Acquire c g k) q = record { last = refl; warming = refl; free = λ _ e. e }
   quiet_step s (NotYet c) q = record { last = refl; warming = refl; free = λ _ e. e }

@@ -1,85 +1,102 @@
 -- What a step tells of a registrar.
-use Rattle.std.proofs.Common.{◌≡◌, ◌≢◌, ℕ, ◌+◌, ◌<◌, ◌≤◌, true, cond, List, [], ◌∷◌, ◌++◌, length, length-append, eq-eqb, ne_eqb, count_by, sym, ap, ◌∙◌, subst, arith, Option, Some, None}
+use Rattle.std.proofs.Common.{◌≡◌, ◌≢◌, ℕ, ◌+◌, ◌<◌, ◌≤◌, true, cond, List, [], ◌∷◌, ◌++◌, length, eq-eqb, ne_eqb, count_by, refl, sym, ap, ◌∙◌, subst, arith, Option, Some, None}
 use Rattle.atomic_table.specs.Table.{Me}
 use Rattle.registry_machine.specs.declared.entry.Entry.{Entry}
-use Rattle.registry_machine.specs.declared.entry.Entry.TheVariants.{TooMany, GenerationsSpent, Update}
+use Rattle.registry_machine.specs.declared.entry.Entry.TheVariants.{Open, TooMany, GenerationsSpent, Update}
 use Rattle.registry_machine.specs.Entries.{has_place}
 use Rattle.registry_machine.specs.Machine.{State, after}
 use Rattle.registry_machine.specs.Legal.{Legal, state_of}
 use Rattle.searcher_table.specs.declared.board.Call.TheVariants.{Open as ToOpen, Update as ToUpdate}
-use Rattle.searcher_table.specs.declared.board.Asked.{Asked}
 use Rattle.searcher_table.specs.declared.board.Cell.{Cell}
 use Rattle.searcher_table.specs.declared.board.Known.{Known}
+use Rattle.searcher_table.specs.declared.board.Task.{Task}
+use Rattle.searcher_table.specs.declared.board.Task.TheVariants.{Idle, Cleared}
+use Rattle.searcher_table.specs.declared.board.Fresh.{Fresh}
 use Rattle.searcher_table.specs.declared.board.Plan.{Plan}
 use Rattle.searcher_table.specs.declared.registrar.Registrar.{Registrar}
 use Rattle.searcher_table.specs.declared.board.Hand.{Hand}
 use Rattle.searcher_table.specs.declared.shown.Shown.{Ghosts}
 use Rattle.searcher_table.specs.declared.tokens.Announced.{Announced}
 use Rattle.searcher_table.specs.Words.{limits, last_generation}
-use Rattle.searcher_table.specs.Warming.{listed, last_in, warming_in, AreUnused}
+use Rattle.searcher_table.specs.Warming.{listed, last_in, warming_in}
 use Rattle.searcher_table.specs.Views.{StartsWith, HasNoPlaceSince}
 use Rattle.searcher_table.specs.Steps.{opening_of, answer_of, joined, Covers, HasExecuted}
 use Rattle.searcher_table.specs.Registrars.{plan_of, seen_of, answer_to}
-use Rattle.searcher_table.proofs.Passing.{Knows, knows, knows_joined}
-use Rattle.searcher_table.proofs.Quiet.{HasSameOpenings, same_trans, quiet_since, state_next}
+use Rattle.searcher_table.proofs.Passing.{Knows, knows}
+use Rattle.searcher_table.proofs.Quiet.{HasSameOpenings, same_trans, quiet_here, quiet_trans, quiet_since, state_next}
 use Rattle.searcher_table.proofs.Places.{same_places, one_place_more}
 
 module _ {D U W X L : Type 0} where
-  -- a call was executed by the registrar, and has this entry
-  pub record HasEntered (r : Registrar D U W X L) (other : Known W U X L) (new : Me (Cell D U) (Known W U X L)) (e : Entry U X L) : Type 0 where
+  -- the registrar's seat, which has seen no entry with a place more
+  pub record Goes (r : Registrar D U W X L) (k : Known W U X L) : Type 0 where
+    pub seen : HasNoPlaceSince k.seen (seen_of r)
+    pub plan : k.plan ≡ r.place.me.0.plan
+    pub role : k.registrar ≡ r.place.me.0.registrar
+    pub back : k.back ≡ r.place.me.0.back
+
+  pub goes : (r : Registrar D U W X L) → Goes r r.place.me.0
+  goes r = record { seen = quiet_here (seen_of r); plan = refl; role = refl; back = refl }
+
+  -- a step of the registrar has this entry
+  pub record HasEntered (r : Registrar D U W X L) (other : Known W U X L) (new : Me (Cell D U) (Known W U X L)) (e : Entry U X L) (task : Task) (fresh : Option Fresh) : Type 0 where
     pub log : List (Entry U X L)
-    pub pending : ℕ → Option (Asked U)
-    pub seen : HasNoPlaceSince log (seen_of r)
+    pub quiet : HasNoPlaceSince log (seen_of r)
     pub covers : StartsWith log other.seen
-    pub knows : Knows r.place.me.0 new.0 (log ++ e ∷ []) pending None
+    pub seen : new.0.seen ≡ log ++ e ∷ []
+    pub plan : new.0.plan ≡ r.place.me.0.plan
+    pub role : new.0.registrar ≡ r.place.me.0.registrar
+    pub back : new.0.back ≡ r.place.me.0.back
+    pub hand : new.0.hand ≡ None
+    pub task_is : new.0.task ≡ task
+    pub fresh_is : new.0.fresh ≡ fresh
     pub legal : Legal (limits (plan_of r)) new.0.seen
     pub places : has_place e ≡ true → r.places + 1 ≡ count_by has_place new.0.seen
-    pub bare : new.1 ≡ []
     pub openings : HasSameOpenings (state_of (limits (plan_of r)) (seen_of r)) (state_of (limits (plan_of r)) log)
     pub state : state_of (limits (plan_of r)) new.0.seen ≡ after (state_of (limits (plan_of r)) log) e
 
-  pub executed : (r : Registrar D U W X L) (other : Known W U X L) (me new : Me (Cell D U) (Known W U X L)) (e : Entry U X L) → me ≡ (joined r.place.me.0 other, r.place.me.1) → HasExecuted e me new → HasEntered r other new e
-  executed r other me new e is x =
+  pub executed : (r : Registrar D U W X L) (k other : Known W U X L) (me new : Me (Cell D U) (Known W U X L)) (e : Entry U X L) (task : Task) (fresh : Option Fresh) → Goes r k → me.0 ≡ joined k other → HasExecuted e task fresh me new → HasEntered r other new e task fresh
+  executed r k other me new e task fresh g is x =
       let log : List (Entry U X L) = x.log in
-      let v : Covers (joined r.place.me.0 other) log = subst (λ (m : Me (Cell D U) (Known W U X L)). Covers m.0 log) is x.covers in
-      let k : Knows r.place.me.0 new.0 (log ++ e ∷ []) x.pending None =
-      knows_joined r.place.me.0 other (subst (λ (m : Me (Cell D U) (Known W U X L)). Knows m.0 new.0 (log ++ e ∷ []) x.pending None) is (knows me new (log ++ e ∷ []) x.pending None x.after)) in
-      let seen = v.places r.role in
+      let v : Covers (joined k other) log = subst (λ (m : Known W U X L). Covers m log) is x.covers in
+      let n : Knows me.0 new.0 (log ++ e ∷ []) x.pending None = knows me new (log ++ e ∷ []) x.pending None x.after in
+      let quiet = quiet_trans (seen_of r) k.seen log g.seen (v.places (g.role ∙ r.role)) in
       record {
         log = log;
-        pending = x.pending;
-        seen = seen;
+        quiet = quiet;
         covers = v.told;
-        knows = k;
-        legal = subst (λ (l : List (Entry U X L)). Legal (limits (plan_of r)) l) (sym k.seen) (x.legal (plan_of r) (ap (λ (m : Me (Cell D U) (Known W U X L)). m.0.plan) is ∙ r.told));
+        seen = n.seen;
+        plan = n.plan ∙ ap (λ (m : Known W U X L). m.plan) is ∙ g.plan;
+        role = n.registrar ∙ ap (λ (m : Known W U X L). m.registrar) is ∙ g.role;
+        back = n.back ∙ ap (λ (m : Known W U X L). m.back) is ∙ g.back;
+        hand = n.hand;
+        task_is = ap (λ (m : Me (Cell D U) (Known W U X L)). m.0.task) x.after;
+        fresh_is = ap (λ (m : Me (Cell D U) (Known W U X L)). m.0.fresh) x.after;
+        legal = subst (λ (l : List (Entry U X L)). Legal (limits (plan_of r)) l) (sym n.seen) (x.legal (plan_of r) (ap (λ (m : Known W U X L). m.plan) is ∙ g.plan ∙ r.told));
         places = λ has.
             let a = r.counted in
-            let b = same_places log (seen_of r) seen in
+            let b = same_places log (seen_of r) quiet in
             let c = one_place_more log e has in
-            let d = ap (count_by has_place) k.seen in
+            let d = ap (count_by has_place) n.seen in
             omega arith;
-        bare = ap (λ (m : Me (Cell D U) (Known W U X L)). m.1) x.after ∙ ap (λ (m : Me (Cell D U) (Known W U X L)). m.1) is ∙ r.bare;
-        openings = quiet_since (limits (plan_of r)) log (seen_of r) seen;
-        state = ap (state_of (limits (plan_of r))) k.seen ∙ state_next (limits (plan_of r)) log e;
+        openings = quiet_since (limits (plan_of r)) log (seen_of r) quiet;
+        state = ap (state_of (limits (plan_of r))) n.seen ∙ state_next (limits (plan_of r)) log e;
       }
 
   -- what the registrar keeps of openings is true of a history with the same ones
   pub record Mirrors (r : Registrar D U W X L) (new : List (Entry U X L)) : Type 0 where
     pub last : r.last ≡ last_in (plan_of r) new
     pub warming : listed r.warming ≡ warming_in (plan_of r) new
-    pub unused : AreUnused (plan_of r) new
 
   pub mirrors : (r : Registrar D U W X L) (new : List (Entry U X L)) → HasSameOpenings (state_of (limits (plan_of r)) (seen_of r)) (state_of (limits (plan_of r)) new) → Mirrors r new
   mirrors r new o = record {
     last = r.last_is ∙ sym o.last;
     warming = r.warming_are ∙ sym o.warming;
-    unused = λ slot le. o.free slot (r.unused slot (subst (λ (gs : List ℕ). length gs ≤ slot) o.warming le));
   }
 
   -- an entry that opens and ends nothing
-  pub entered_mirrors : (r : Registrar D U W X L) (other : Known W U X L) (new : Me (Cell D U) (Known W U X L)) (e : Entry U X L) → (x : HasEntered r other new e)
+  pub entered_mirrors : (r : Registrar D U W X L) (other : Known W U X L) (new : Me (Cell D U) (Known W U X L)) (e : Entry U X L) (task : Task) (fresh : Option Fresh) → (x : HasEntered r other new e task fresh)
       → HasSameOpenings (state_of (limits (plan_of r)) x.log) (after (state_of (limits (plan_of r)) x.log) e) → Mirrors r new.0.seen
-  entered_mirrors r other new e x o =
+  entered_mirrors r other new e task fresh x o =
       let l = limits (plan_of r) in
       mirrors r new.0.seen (subst (λ (t : State). HasSameOpenings (state_of l (seen_of r)) t) (sym x.state)
       (same_trans (state_of l (seen_of r)) (state_of l x.log) (after (state_of l x.log) e) x.openings o))
@@ -88,25 +105,13 @@ module _ {D U W X L : Type 0} where
   pub record HasOneMore (r : Registrar D U W X L) (new : List (Entry U X L)) : Type 0 where
     pub last : r.last + 1 ≡ last_in (plan_of r) new
     pub warming : listed r.warming ++ (r.last + 1) ∷ [] ≡ warming_in (plan_of r) new
-    pub unused : AreUnused (plan_of r) new
 
-  pub opened_mirrors : (r : Registrar D U W X L) (other : Known W U X L) (new : Me (Cell D U) (Known W U X L)) (h : Hand U) (shown : X) → HasEntered r other new (opening_of (plan_of r) (seen_of r) h shown)
+  pub opened_mirrors : (r : Registrar D U W X L) (other : Known W U X L) (new : Me (Cell D U) (Known W U X L)) (h : Hand U) (slot : ℕ) (shown : X) (task : Task) (fresh : Option Fresh) → HasEntered r other new (opening_of (plan_of r) (seen_of r) h slot shown) task fresh
       → HasOneMore r new.0.seen
-  opened_mirrors r other new h shown x =
-      let l = limits (plan_of r) in
-      let s : State = state_of l (seen_of r) in
-      let t : State = state_of l x.log in
-      let o = x.openings in
-      let e : Entry U X L = opening_of (plan_of r) (seen_of r) h shown in
-      record {
-        last = ap (λ n. n + 1) r.last_is ∙ sym (ap (λ (z : State). z.last_opened) x.state);
-        warming = (λ i. (r.warming_are ∙ sym o.warming) i ++ (r.last_is i + 1) ∷ []) ∙ sym (ap (λ (z : State). z.warming) x.state);
-        unused = λ slot le.
-            let long : length t.warming + 1 ≤ slot = (let a = ap (λ (z : State). length z.warming) x.state in let b = length-append t.warming ((s.last_opened + 1) ∷ []) in omega arith) in
-            let same : length t.warming ≡ length s.warming = ap length o.warming in
-            ap (λ (z : State). z.slots slot) x.state ∙ ap (λ b. cond b (Some (s.last_opened + 1)) (t.slots slot)) (ne_eqb slot (length s.warming) (λ is. absurd (omega arith)))
-            ∙ o.free slot (r.unused slot (omega arith));
-      }
+  opened_mirrors r other new h slot shown task fresh x = record {
+    last = ap (λ n. n + 1) r.last_is ∙ sym (ap (λ (z : State). z.last_opened) x.state);
+    warming = (λ i. (r.warming_are ∙ sym x.openings.warming) i ++ (r.last_is i + 1) ∷ []) ∙ sym (ap (λ (z : State). z.warming) x.state);
+  }
 
   -- the registrar has seen a history with no place more
   pub record HasSeen (r : Registrar D U W X L) (new : Known W U X L) : Type 0 where
@@ -167,19 +172,25 @@ module _ {D U W X L : Type 0} {shows : Ghosts D W X L} where
 
   -- what the step by which the registrar answers a call leaves, once it has taken that call in
   pub answered : (r : Registrar D U W X L) (a : Announced D U W X L shows) (me new : Me (Cell D U) (Known W U X L)) → me ≡ (joined r.place.me.0 a.place.me.0, r.place.me.1)
-      → ((h : Hand U) (p : Plan W) → me.0.hand ≡ Some h → me.0.plan ≡ Some p → HasExecuted (answer_of h.asked.call p me.0.seen h) me new)
-      → HasEntered r a.place.me.0 new (answer_to r a)
+      → ((h : Hand U) (p : Plan W) → me.0.hand ≡ Some h → me.0.plan ≡ Some p → HasExecuted (answer_of h.asked.call p me.0.seen h) me.0.task me.0.fresh me new)
+      → HasEntered r a.place.me.0 new (answer_to r a) Idle me.0.fresh
   answered r a me new is x =
       let plan : me.0.plan ≡ Some (plan_of r) = ap (λ (m : Me (Cell D U) (Known W U X L)). m.0.plan) is ∙ r.told in
       let hand : me.0.hand ≡ Some (hand_of a) = ap (λ (m : Me (Cell D U) (Known W U X L)). m.0.hand) is ∙ a.in_hand in
-      executed r a.place.me.0 me new (answer_to r a) is
-      (subst (λ (l : List (Entry U X L)). HasExecuted (answer_of a.asked.call (plan_of r) l (hand_of a)) me new) (ap (λ (m : Me (Cell D U) (Known W U X L)). m.0.seen) is) (x (hand_of a) (plan_of r) hand plan))
+      let task : me.0.task ≡ Idle = ap (λ (m : Me (Cell D U) (Known W U X L)). m.0.task) is ∙ r.idle in
+      executed r r.place.me.0 a.place.me.0 me new (answer_to r a) Idle me.0.fresh (goes r) (ap (λ (m : Me (Cell D U) (Known W U X L)). m.0) is)
+      (subst (λ (z : List (Entry U X L) × Task). HasExecuted (answer_of a.asked.call (plan_of r) z.0 (hand_of a)) z.1 me.0.fresh me new) (λ i. (ap (λ (m : Me (Cell D U) (Known W U X L)). m.0.seen) is i, task i)) (x (hand_of a) (plan_of r) hand plan))
 
-  -- and the step by which it opens the next generation, which shows this
-  pub opened : (shown : X) (r : Registrar D U W X L) (a : Announced D U W X L shows) (me new : Me (Cell D U) (Known W U X L)) → me ≡ (joined r.place.me.0 a.place.me.0, r.place.me.1)
-      → ((h : Hand U) (p : Plan W) → me.0.hand ≡ Some h → me.0.plan ≡ Some p → HasExecuted (opening_of p me.0.seen h shown) me new) → HasEntered r a.place.me.0 new (opening_of (plan_of r) (seen_of r) (hand_of a) shown)
-  opened shown r a me new is x =
-      let plan : me.0.plan ≡ Some (plan_of r) = ap (λ (m : Me (Cell D U) (Known W U X L)). m.0.plan) is ∙ r.told in
-      let hand : me.0.hand ≡ Some (hand_of a) = ap (λ (m : Me (Cell D U) (Known W U X L)). m.0.hand) is ∙ a.in_hand in
-      executed r a.place.me.0 me new (opening_of (plan_of r) (seen_of r) (hand_of a) shown) is
-      (subst (λ (l : List (Entry U X L)). HasExecuted (opening_of (plan_of r) l (hand_of a) shown) me new) (ap (λ (m : Me (Cell D U) (Known W U X L)). m.0.seen) is) (x (hand_of a) (plan_of r) hand plan))
+  -- and the step by which it opens the next generation in the slot that it has claimed, which shows this
+  pub opened : (shown : X) (r : Registrar D U W X L) (a : Announced D U W X L shows) (k : Known W U X L) (slot : ℕ) (me new : Me (Cell D U) (Known W U X L)) → Goes r k → me.0 ≡ joined k a.place.me.0 → k.task ≡ Cleared slot
+      → ((h : Hand U) (p : Plan W) (b : ℕ) → me.0.hand ≡ Some h → me.0.plan ≡ Some p → me.0.task ≡ Cleared b
+      → HasExecuted (opening_of p me.0.seen h b shown) Idle (Some (record { generation = (state_of (limits p) me.0.seen).last_opened + 1; slot = b })) me new)
+      → HasEntered r a.place.me.0 new (opening_of (plan_of r) (seen_of r) (hand_of a) slot shown) Idle (Some (record { generation = last_in (plan_of r) (seen_of r) + 1; slot = slot }))
+  opened shown r a k slot me new g is clear x =
+      let l = limits (plan_of r) in
+      let plan : me.0.plan ≡ Some (plan_of r) = ap (λ (m : Known W U X L). m.plan) is ∙ g.plan ∙ r.told in
+      let hand : me.0.hand ≡ Some (hand_of a) = ap (λ (m : Known W U X L). m.hand) is ∙ a.in_hand in
+      let task : me.0.task ≡ Cleared slot = ap (λ (m : Known W U X L). m.task) is ∙ clear in
+      let last : (state_of l me.0.seen).last_opened ≡ (state_of l (seen_of r)).last_opened = ap (λ (m : Known W U X L). (state_of l m.seen).last_opened) is ∙ (quiet_since l k.seen (seen_of r) g.seen).last in
+      executed r k a.place.me.0 me new (opening_of (plan_of r) (seen_of r) (hand_of a) slot shown) Idle (Some (record { generation = last_in (plan_of r) (seen_of r) + 1; slot = slot })) g is
+      (subst (λ (n : ℕ). HasExecuted (Open a.caller a.asked.content (n + 1) slot shown) Idle (Some (record { generation = n + 1; slot = slot })) me new) last (x (hand_of a) (plan_of r) slot hand plan task))

@@ -1,24 +1,29 @@
 -- Releasing keeps the rule: the slot's word counts one more, and the caller pins nothing any more.
-use Rattle.std.proofs.Common.{◌≡◌, ◌≢◌, ℕ, ◌+◌, ◌%◌, ◌≤◌, ◌<◌, ◌==◌, cond, List, [], ◌∷◌, ◌++◌, count_by, length, set, get_or-set_same, get_or-set_other, eq-eqb, ne_eqb, refl, sym, ap, ◌∙◌, subst, arith, inl, inr, ⊎_elim, Some, None}
+use Rattle.std.proofs.Common.{◌≡◌, ◌≢◌, ◌⊎◌, ℕ, ◌+◌, ◌*◌, ◌/◌, ◌%◌, ◌≤◌, ◌<◌, ◌==◌, Bool, true, false, cond, List, [], ◌∷◌, ◌++◌, length, set, get_or-set_same, get_or-set_other, eq-eqb, ne_eqb, refl, sym, ap, ◌∙◌, subst, arith, inl, inr, ⊎_elim, Some, None}
 use mathlib.Core.Option as maybe
 use mathlib.Core.Logic.{dite}
 use native.Mathlib.Decide.{ℕ_discrete}
 use Rattle.std.specs.Prelude.{slice_index, ◌^◌}
-use Rattle.std.proofs.lemmas.Option.{same_Some, none-some}
+use Rattle.std.proofs.lemmas.Option.{same_Some}
 use Rattle.atomic_table.specs.Table.{Me, Allows, keeps, step}
 use Rattle.registry_machine.specs.declared.entry.Entry.{Entry}
 use Rattle.registry_machine.specs.declared.entry.Entry.TheVariants.{Release}
 use Rattle.registry_machine.specs.Callers.{mine}
-use Rattle.registry_machine.specs.Machine.{State}
+use Rattle.registry_machine.specs.Machine.{State, after}
 use Rattle.registry_machine.specs.Legal.{Legal, state_of}
+use Rattle.registry_machine.proofs.Lists.{test_same}
 use Rattle.searcher_table.specs.declared.board.Cell.{Cell}
 use Rattle.searcher_table.specs.declared.board.Plan.{Plan}
 use Rattle.searcher_table.specs.declared.board.Known.{Known}
 use Rattle.searcher_table.specs.Words.{word_count, current_word, slot_word, packed, limits}
 use Rattle.searcher_table.specs.Counts.{is_acquire, is_not_yet, releases, pinned, NamesCaller}
-use Rattle.searcher_table.specs.Rule.{CountsTooEarly, IsPacked, Two, Kept}
-use Rattle.searcher_table.specs.Steps.{looked, HasMade, Released}
-use Rattle.searcher_table.proofs.Frame.{covers}
+use Rattle.searcher_table.specs.Rule.{CountsTooEarly, IsPacked, Two, released, Kept}
+use Rattle.searcher_table.specs.declared.board.Task.{Task}
+use Rattle.searcher_table.specs.declared.board.Task.TheVariants.{Idle, Duty}
+use Rattle.searcher_table.specs.Tasks.{is_settled, Three}
+use Rattle.searcher_table.specs.Steps.{looked, duty_by, HasMade, Released}
+use Rattle.searcher_table.proofs.Slotted.{three_released}
+use Rattle.searcher_table.proofs.Frame.{put, covers}
 use Rattle.searcher_table.proofs.Execute.{grows_legal}
 use Rattle.searcher_table.proofs.Counts.{counts_last, not_own, pins_own, few_acquired, pinned_counts}
 use Rattle.searcher_table.proofs.Standing.{bounded, slot_stays}
@@ -26,13 +31,18 @@ use Rattle.searcher_table.proofs.Beside.{own_last, not_counted, all_snoc, open_b
 use Rattle.searcher_table.proofs.Quiet.{state_next}
 use Rattle.searcher_table.proofs.OwnStep.{pinned_still, own_step}
 
-module _ {W U X L : Type 0} (p : Plan W) (log : List (Entry U X L)) (words : List ℕ) (c g slot x : ℕ) (long : length words ≡ word_count) (legal : Legal (limits p) log) (two : Two p log words)
-    (low : 1 ≤ c) (few : c ≤ 64) (pins : (state_of (limits p) log).pins c ≡ Some g) (here : (state_of (limits p) log).slots slot ≡ Some g) where
+cond_most : (b : Bool) (n : ℕ) → cond b n 0 ≤ n
+cond_most true n = omega arith
+cond_most false n = omega arith
+
+module _ {W U X L : Type 0} (p : Plan W) (log : List (Entry U X L)) (words : List ℕ) (tasks : ℕ → Task) (c g slot x : ℕ) (long : length words ≡ word_count) (legal : Legal (limits p) log) (two : Two p log words) (three : Three p (state_of (limits p) log) (released log) (tasks 0) tasks words)
+    (low : 1 ≤ c) (few_callers : c ≤ 64) (pins : (state_of (limits p) log).pins c ≡ Some g) (here : (state_of (limits p) log).slots slot ≡ Some g) where
   -- the word has room for one more
   fits : (slice_index words (slot_word slot) + 1) % 2 ^ 64 ≡ slice_index words (slot_word slot) + 1
   fits =
-      let a = two.opened slot g here in
-      let b = pinned_counts (limits p) g c log legal two.named low few pins in
+      let a = three.counts slot g (open_below p log slot g two.sizes legal here) here in
+      let z = cond_most (is_settled (state_of (limits p) log) (tasks 0) g) (((state_of (limits p) log).acquired g + 1) * 4294967296) in
+      let b = pinned_counts (limits p) g c log legal two.named low few_callers pins in
       let d = few_acquired (limits p) g p.budget log two.named two.within in
       let s = two.sizes.budget in
       omega arith
@@ -61,33 +71,69 @@ module _ {W U X L : Type 0} (p : Plan W) (log : List (Entry U X L)) (words : Lis
               word_is = word ∙ k.word_is ∙ ap (packed k.generation k.slot) (sym (ap (λ (s : State). s.acquired k.generation) next));
             })
             two.current;
-        opened = λ t h o.
-            let was : (state_of l log).slots t ≡ Some h = sym (ap (λ (s : State). s.slots t) next) ∙ o in
-            dite (ℕ_discrete t slot)
-            (λ same.
-            let one : g ≡ h = same_Some g h (sym here ∙ ap (state_of l log).slots (sym same) ∙ was) in
-            let set_is : slice_index (set words (slot_word slot) x) (slot_word t) ≡ x = ap (λ n. slice_index (set words (slot_word slot) x) (slot_word n)) same ∙ get_or-set_same words (slot_word slot) x 0 (omega arith) in
-            let a = two.opened slot g here in
-            let b = counts_last (releases h) log e in
-            let f : cond {A = ℕ} (g == h) 1 0 ≡ 1 = ap (λ b. cond b 1 0) (eq-eqb g h one) in
-            let n = ap (λ n. count_by (releases n) log) one in
-            omega arith)
-            (λ other.
-            let apart : g ≢ h = λ one. other ((bounded l log (first_within p two.sizes) legal).one t slot h was (here ∙ ap (λ n. Some n) one)) in
-            others (slot_word t) (λ z. other (omega arith)) ∙ two.opened t h was ∙ sym (not_counted (releases h) log e (ne_eqb g h apart)));
-        free = λ t b o.
-            let was : (state_of l log).slots t ≡ None = sym (ap (λ (s : State). s.slots t) next) ∙ o in
-            let other : t ≢ slot = λ same. none-some g (sym was ∙ ap (state_of l log).slots same ∙ here) in
-            others (slot_word t) (λ z. other (omega arith)) ∙ two.free t b was;
-        named = all_snoc NamesCaller log e two.named (low, few);
+        named = all_snoc NamesCaller log e two.named (low, few_callers);
         within = λ d. let a = own_last d is_acquire log e in let b = not_own d is_acquire e refl in let w = two.within d in omega arith;
       }
 
+  -- what the word found tells: the slot is to be freed exactly where its generation is settled and this was the last release
+  abbrev own : Task
+  own = tasks 0
+
+  abbrev s : State
+  s = state_of (limits p) log
+
+  abbrev found : ℕ
+  found = slice_index words (slot_word slot)
+
+  last_release : (b : Bool) → is_settled s own g ≡ b → (duty_by found slot g ≡ cond b (cond (s.acquired g == released log g + 1) (Duty slot g) Idle) Idle)
+  last_release true e =
+      let w = three.counts slot g (open_below p log slot g two.sizes legal here) here in
+      let k = ap (λ z. released log g + cond z ((s.acquired g + 1) * 4294967296) 0) e in
+      let few = few_acquired (limits p) g p.budget log two.named two.within in
+      let most = two.sizes.budget in
+      let pinned = pinned_counts (limits p) g c log legal two.named low few_callers pins in
+      dite (ℕ_discrete (s.acquired g) (released log g + 1))
+      (λ same. ap (λ z. cond z (Duty slot g) Idle) (eq-eqb (found / 4294967296) (found % 4294967296 + 2) (omega arith) ∙ sym (eq-eqb (s.acquired g) (released log g + 1) same)))
+      (λ other. ap (λ z. cond z (Duty slot g) Idle) (ne_eqb (found / 4294967296) (found % 4294967296 + 2) (λ z. other (omega arith)) ∙ sym (ne_eqb (s.acquired g) (released log g + 1) other)))
+  last_release false e =
+      let w = three.counts slot g (open_below p log slot g two.sizes legal here) here in
+      let k = ap (λ z. released log g + cond z ((s.acquired g + 1) * 4294967296) 0) e in
+      let few = few_acquired (limits p) g p.budget log two.named two.within in
+      let most = two.sizes.budget in
+      let pinned = pinned_counts (limits p) g c log legal two.named low few_callers pins in
+      ap (λ z. cond z (Duty slot g) Idle) (ne_eqb (found / 4294967296) (found % 4294967296 + 2) (λ z. absurd (omega arith)))
+
+  -- the slots after the release
+  three_later : tasks c ≡ Idle → c ≤ p.callers → x ≡ slice_index words (slot_word slot) + 1 → Three p (after {U = U} {D = X} {L = L} s (Release c g [])) (released (log ++ Release c g [] ∷ [])) own (put c (duty_by found slot g) tasks) (set words (slot_word slot) x)
+  three_later idle callers is =
+      let e : Entry U X L = Release c g [] in
+      let below = open_below p log slot g two.sizes legal here in
+      let pinned = pinned_counts (limits p) g c log legal two.named low few_callers pins in
+      let more : released (log ++ e ∷ []) g ≡ released log g + 1 = (let b = counts_last (releases g) log e in let f : cond {A = ℕ} (g == g) 1 0 ≡ 1 = ap (λ b. cond b 1 0) (eq-eqb g g refl) in omega arith) in
+      let b = bounded (limits p) log (first_within p two.sizes) legal in
+      three_released U X L p s (released log) tasks words three c g slot (released (log ++ e ∷ [])) (set words (slot_word slot) x) (duty_by found slot g) (λ z. absurd (omega arith)) callers below here idle pinned
+      (λ a at. b.one a slot g at here) more (λ h away. not_counted (releases h) log e (ne_eqb g h (λ z. away (sym z))))
+      (get_or-set_same words (slot_word slot) x 0 (omega arith) ∙ is) (λ i n. get_or-set_other words (slot_word slot) i x 0 n)
+      (λ settled out. last_release true settled ∙ ap (λ z. cond z (Duty slot g) Idle) (eq-eqb (s.acquired g) (released log g + 1) (sym out ∙ more)))
+      (by_test (is_settled s own g) refl)
+    where
+      by_count : is_settled s own g ≡ true → (b : Bool) → (s.acquired g == released log g + 1) ≡ b → (duty_by found slot g ≡ Idle) ⊎ ((duty_by found slot g ≡ Duty slot g) × (is_settled s own g ≡ true) × (released (log ++ Release c g [] ∷ []) g ≡ s.acquired g))
+      by_count settled true e = inr (
+        last_release true settled ∙ ap (λ z. cond z (Duty slot g) Idle) e,
+        settled,
+        (let m = counts_last (releases g) log (Release c g []) in let f : cond {A = ℕ} (g == g) 1 0 ≡ 1 = ap (λ b. cond b 1 0) (eq-eqb g g refl) in let t = test_same (s.acquired g) (released log g + 1) e in omega arith),
+      )
+      by_count settled false e = inl (last_release true settled ∙ ap (λ z. cond z (Duty slot g) Idle) e)
+
+      by_test : (b : Bool) → is_settled s own g ≡ b → (duty_by found slot g ≡ Idle) ⊎ ((duty_by found slot g ≡ Duty slot g) × (is_settled s own g ≡ true) × (released (log ++ Release c g [] ∷ []) g ≡ s.acquired g))
+      by_test true e = by_count e (s.acquired g == released log g + 1) refl
+      by_test false e = inl (last_release false e)
+
 module _ {D W U X L : Type 0} (p : Plan W) where
   pub releases_slot : (slots id : ℕ) (me : Me (Cell D U) (Known W U X L)) (i slot g : ℕ) → i ≡ slot_word slot → slot < 70 → 1 ≤ me.0.caller → me.0.caller ≤ 64 → me.0.back ≡ []
-      → pinned me.0.caller me.0.mine ≡ Some g → (state_of (limits p) me.0.seen).slots slot ≡ Some g
+      → pinned me.0.caller me.0.mine ≡ Some g → me.0.task ≡ Idle → (state_of (limits p) me.0.seen).slots slot ≡ Some g
       → Allows (Kept p) slots id me i (λ n. (n + 1) % 2 ^ 64) (Released (step slots i 1 0 maybe.none) me)
-  releases_slot slots id me i slot g at_word below low few bare holds opened s kept deep at small =
+  releases_slot slots id me i slot g at_word below low few bare holds idle opened s kept deep at small =
       let w = kept.world in
       let k = me.0 in
       let c : ℕ = k.caller in
@@ -100,14 +146,20 @@ module _ {D W U X L : Type 0} (p : Plan W) where
       let pins : (state_of l w.log).pins c ≡ Some g = pins_own l c w.log ∙ pinned_still c k.mine (mine c w.log) k.announced (w.pending c) calls ∙ holds in
       let here = slot_stays l w.log k.seen all.seen.0 c g slot (first_within p kept.two.sizes) kept.legal all.seen.1 opened pins in
       let is : x ≡ slice_index s.words (slot_word slot) + 1 =
-      ap (λ n. (slice_index s.words n + 1) % 2 ^ 64) at_word ∙ fits p w.log s.words c g slot x kept.words kept.legal kept.two low few pins here in
-      let later = subst (λ (n : ℕ). Two p log (set s.words n x)) (sym at_word) (two_released p w.log s.words c g slot x kept.words kept.legal kept.two low few pins here is) in
-      let new : Me (Cell D U) (Known W U X L) = (record (looked k log w.pending) { hand = None }, me.1) in (
+      ap (λ n. (slice_index s.words n + 1) % 2 ^ 64) at_word ∙ fits p w.log s.words w.tasks c g slot x kept.words kept.legal kept.two kept.three low few pins here in
+      let later = subst (λ (n : ℕ). Two p log (set s.words n x)) (sym at_word) (two_released p w.log s.words w.tasks c g slot x kept.words kept.legal kept.two kept.three low few pins here is) in
+      let task : Task = duty_by (slice_index s.words i) slot g in
+      let few_passes = kept.one.few in
+      let dealt = (all.pass low).dealt in
+      let slots : Three p (after (state_of l w.log) e) (released log) (w.tasks 0) (put c task w.tasks) (set s.words i x) =
+      subst (λ (n : ℕ). Three p (after (state_of l w.log) e) (released log) (w.tasks 0) (put c (duty_by (slice_index s.words n) slot g) w.tasks) (set s.words n x)) (sym at_word)
+      (three_later p w.log s.words w.tasks c g slot x kept.words kept.legal kept.two kept.three low few pins here (sym (all.pass low).task ∙ idle) (omega arith) is) in
+      let new : Me (Cell D U) (Known W U X L) = (record (looked k log w.pending) { hand = None; task = task; fresh = k.fresh }, me.1) in (
         new.0,
         keeps,
         tt,
-        own_step p s kept id i x me e at low bare (omega arith) refl refl pins later,
-        λ h same. subst (λ (n : ℕ). HasMade (Release c n []) me new) (same_Some g h (sym holds ∙ same)) record {
+        own_step p s kept id i x me e task at low bare (omega arith) refl refl pins later slots (λ f z. record { warming = z.warming; opened = z.opened }),
+        λ t h at_slot same. subst (λ (n : ℕ × ℕ). HasMade (Release c n.1 []) (duty_by (slice_index s.words i) n.0 n.1) me new) (λ j. ((let q : slot ≡ t = omega arith in q) j, same_Some g h (sym holds ∙ same) j)) record {
           entered = record {
             log = w.log;
             pending = w.pending;

@@ -1,8 +1,7 @@
 -- Taking a pass back keeps the rule: its caller has announced nothing, and its entries are the registrar's.
-use Rattle.std.proofs.Common.{◌≡◌, ◌≢◌, ℕ, ◌≤◌, List, [], ◌∷◌, ◌++◌, set, sym, ◌∙◌, None}
+use Rattle.std.proofs.Common.{◌≡◌, ◌≢◌, ℕ, ◌≤◌, List, [], ◌∷◌, set, sym, ◌∙◌, None}
 use mathlib.Core.Option.{some}
 use lib.ListN.{get_elem?}
-use Rattle.std.specs.List.{AllByRecursion}
 use Rattle.atomic_table.specs.Table.{Joins}
 use Rattle.atomic_table.proofs.Lists.{set_else}
 use Rattle.searcher_table.specs.declared.board.Plan.{Plan}
@@ -10,14 +9,10 @@ use Rattle.searcher_table.specs.declared.board.Own.{Own}
 use Rattle.searcher_table.specs.declared.board.Known.{Known}
 use Rattle.searcher_table.specs.Rule.{World, IsBack, Fits, Kept}
 use Rattle.searcher_table.specs.Steps.{taken_back, spent}
-use Rattle.searcher_table.proofs.Frame.{each_set, all_map}
+use Rattle.searcher_table.proofs.Frame.{each_set, all_map, all_joined}
 use Rattle.searcher_table.proofs.HandOut.{given, given_on, given_not}
 use Rattle.searcher_table.proofs.Announce.{nothing_pending}
 use Rattle.searcher_table.proofs.Gather.{spent_fits}
-
-all_joined : {A : Type 0} (F : A → Type 0) (xs ys : List A) → AllByRecursion F xs → AllByRecursion F ys → AllByRecursion F (xs ++ ys)
-all_joined F [] ys a b = b
-all_joined F (x ∷ xs) ys a b = (a.0, all_joined F xs ys a.1 b)
 
 module _ {U X L : Type 0} where
   -- the passes of one seat are another's
@@ -33,9 +28,10 @@ module _ {W U X L : Type 0} where
         plan = f.plan;
         seen = f.seen;
         told = f.told;
-        pass = λ c. let g = f.pass c in record { here = stays k.caller g.here; dealt = g.dealt; calls = g.calls };
+        pass = λ c. let g = f.pass c in record { here = stays k.caller g.here; dealt = g.dealt; calls = g.calls; task = g.task };
         hand = λ h e. let g = f.hand h e in record { here = g.here; pending = g.pending };
-        registrar = λ r. let g = f.registrar r in record { here = g.here; seen = g.seen; next = g.next };
+        fresh = λ h e. let g = f.fresh h e in record { here = g.here; warming = g.warming };
+        registrar = λ r. let g = f.registrar r in record { here = g.here; seen = g.seen; next = g.next; nobody = g.nobody; task = g.task };
         back = all_map (IsBack w j) (IsBack (taken w from to) j) (λ o g. record { here = stays o.caller g.here; dealt = g.dealt; mine = g.mine; none = g.none }) k.back f.back;
       }
 
@@ -55,9 +51,10 @@ module _ {W U X L : Type 0} where
         plan = f.plan;
         seen = f.seen;
         told = g.seen;
-        pass = λ c. let i = f.pass c in record { here = i.here; dealt = i.dealt; calls = i.calls };
+        pass = λ c. let i = f.pass c in record { here = i.here; dealt = i.dealt; calls = i.calls; task = i.task };
         hand = f.hand;
-        registrar = λ r. let i = f.registrar r in record { here = i.here; seen = i.seen; next = i.next };
+        fresh = f.fresh;
+        registrar = λ r. let i = f.registrar r in record { here = i.here; seen = i.seen; next = i.next; nobody = i.nobody; task = i.task };
         back = all_joined (IsBack v id) k.back (own ∷ []) f.back (new, tt);
       } in
       record {
@@ -65,11 +62,14 @@ module _ {W U X L : Type 0} where
         world = v;
         legal = kept.legal;
         two = kept.two;
+        three = kept.three;
         one = record {
           calls = kept.one.calls;
           fits = each_set (Fits p v) one other spent (spent_fits p v other)
               (λ j u away e. each_set (λ i x. i ≢ other → Fits p v i x) s.views id (taken_back k o) (λ _. both)
               (λ i x n is far. fits_still p w other id i x far (kept.one.fits i x is)) j u e away);
           undealt = kept.one.undealt;
+          first = kept.one.first;
+          few = kept.one.few;
         };
       }

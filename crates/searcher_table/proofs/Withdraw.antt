@@ -6,6 +6,8 @@ use Rattle.std.specs.Prelude.{slice_index}
 use Rattle.std.specs.List.{AllByRecursion}
 use Rattle.std.proofs.lemmas.Option.{none-some}
 use Rattle.atomic_table.specs.Table.{Me, Allows, keeps, step}
+use Rattle.registry_machine.specs.Machine.{Limits}
+use Rattle.registry_machine.specs.Legal.{state_of}
 use Rattle.registry_machine.specs.Callers.{mine}
 use Rattle.searcher_table.specs.declared.board.Asked.{Asked}
 use Rattle.searcher_table.specs.declared.board.Cell.{Cell}
@@ -13,12 +15,13 @@ use Rattle.searcher_table.specs.declared.board.Plan.{Plan}
 use Rattle.searcher_table.specs.declared.board.Hand.{Hand}
 use Rattle.searcher_table.specs.declared.board.Own.{Own}
 use Rattle.searcher_table.specs.declared.board.Known.{Known}
-use Rattle.searcher_table.specs.Words.{call_word, code}
+use Rattle.searcher_table.specs.Words.{call_word, code, limits}
 use Rattle.searcher_table.specs.Views.{IsStill, WasExecuted, GoesOn}
-use Rattle.searcher_table.specs.Rule.{World, IsPass, IsHand, IsBack, Kept}
+use Rattle.searcher_table.specs.Rule.{World, IsPass, IsHand, IsBack, released, Kept}
 use Rattle.searcher_table.specs.Steps.{looked, Withdrawn}
-use Rattle.searcher_table.proofs.Frame.{put, put_here, put_else, moved, Leaves, one_after, covers}
-use Rattle.searcher_table.proofs.Beside.{AreSame, call_beside, two_words}
+use Rattle.searcher_table.proofs.Frame.{put, put_here, put_else, moved, Leaves, own_task, one_after, covers}
+use Rattle.searcher_table.proofs.Beside.{AreSame, call_beside, few_slots, two_words}
+use Rattle.searcher_table.proofs.Slotted.{three_words, slots_same}
 use Rattle.searcher_table.proofs.Handing.{calls_after, another, other_hand}
 
 -- a pass whose call is pending has all its caller's entries
@@ -30,16 +33,17 @@ still_pending {W} {U} {X} {L} w id k asked f pending = ⊎_elim
     f.calls
 
 -- the call is the seat's, and whatever the others know stays true
-leaves : {W U X L : Type 0} (w : World U X L) (id : ℕ) (c : ℕ) → w.pass_at c ≡ id → w.hand_at c ≡ id → Leaves W w (moved w w.log (put c None w.pending) w.hand_at) id
-leaves {W} {U} {X} {L} w id c here hand =
+leaves : {W U X L : Type 0} (l : Limits) (w : World U X L) (id : ℕ) (c : ℕ) → w.pass_at c ≡ id → w.hand_at c ≡ id → Leaves W l w (moved w w.log (put c None w.pending) w.hand_at w.tasks w.fresh_at) id
+leaves {W} {U} {X} {L} l w id c here hand =
     record {
       log = λ _ s. s;
       passes = λ j u other _ (g : IsPass w j u).
           let n : u.caller ≢ c = another w id j c u.caller here g.here other in
-          record { here = g.here; dealt = g.dealt; calls = subst (λ a. GoesOn u.caller u.mine u.announced (mine u.caller w.log) a) (sym (put_else c None w.pending u.caller n)) g.calls };
+          record { here = g.here; dealt = g.dealt; calls = subst (λ a. GoesOn u.caller u.mine u.announced (mine u.caller w.log) a) (sym (put_else c None w.pending u.caller n)) g.calls; task = g.task };
       hands = λ j h other (g : IsHand w j h).
           record { here = g.here; pending = put_else c None w.pending h.caller (other_hand w id j c h.caller hand g.here other) ∙ g.pending };
-      registrars = λ j u other g. record { here = g.here; seen = g.seen; next = g.next };
+      freshes = λ j h other g. record { here = g.here; warming = g.warming };
+      registrars = λ j u other g. record { here = g.here; seen = g.seen; next = g.next; nobody = g.nobody; task = g.task };
       backs = λ j o other (g : IsBack w j o).
           let n : o.caller ≢ c = another w id j c o.caller here g.here other in
           record { here = g.here; dealt = g.dealt; mine = g.mine; none = put_else c None w.pending o.caller n ∙ g.none };
@@ -63,14 +67,20 @@ module _ {D W U X L : Type 0} (p : Plan W) where
         tt,
         record {
           words = length-set s.words i 0 ∙ kept.words;
-          world = moved w w.log now w.hand_at;
+          world = moved w w.log now w.hand_at w.tasks w.fresh_at;
           legal = kept.legal;
-          two = two_words p w.log s.words (set s.words i 0) kept.legal (subst (λ (n : ℕ). AreSame s.words (set s.words n 0)) (sym at_word) (call_beside s.words c 0)) kept.two;
-          one = one_after p w w.log now w.hand_at s.words (set s.words i 0) s.views id k None kept.one at (leaves w id c f.here here)
+          three = three_words p (state_of (limits p) w.log) (released w.log) w.tasks (few_slots p kept.two.sizes) s.words (set s.words i 0) (slots_same s.words (set s.words i 0) (subst (λ (n : ℕ). AreSame s.words (set s.words n 0)) (sym at_word) (call_beside s.words c 0))) kept.three;
+          two = two_words p w.log s.words (set s.words i 0) (subst (λ (n : ℕ). AreSame s.words (set s.words n 0)) (sym at_word) (call_beside s.words c 0)) kept.two;
+          one = one_after p w w.log now w.hand_at w.tasks w.fresh_at id k None k.task k.fresh s.words (set s.words i 0) s.views kept.one at (leaves (limits p) w id c f.here here)
               (λ d l g. subst (λ (n : ℕ). slice_index (set s.words n 0) (call_word d) ≡ code (now d)) (sym at_word) (calls_after s.words w.pending c 0 None kept.words few refl kept.one.calls d l g))
-              (λ d past. let u = kept.one.undealt d past in (put_else c None w.pending d (λ e. let deal = f.dealt in absurd (omega arith)) ∙ u.0, u.1))
-              (λ g e. absurd (none-some g e))
-              (subst (λ (os : List (Own U X L)). AllByRecursion (IsBack (moved w w.log now w.hand_at) id) os) (sym bare) tt);
+              (λ d past. let u = kept.one.undealt d past in (put_else c None w.pending d (λ e. let deal = f.dealt in absurd (omega arith)) ∙ u.0, u.1, u.2))
+              record {
+                hands = (λ g e. absurd (none-some g e));
+                freshes = λ h e. (let g = all.fresh h e in record { here = g.here; warming = g.warming });
+                begun = own_task p w id k all;
+                backs =
+                    (subst (λ (os : List (Own U X L)). AllByRecursion (IsBack (moved w w.log now w.hand_at w.tasks w.fresh_at) id) os) (sym bare) tt);
+              };
         },
         record {
           log = w.log;

@@ -1,10 +1,12 @@
 pub mod Words
+pub mod Tasks
 pub mod Counts
 pub mod Spares
 pub mod Warming
 pub mod Views
 pub mod Rule
 pub mod Steps
+pub mod Claims
 pub mod Passes
 pub mod Pins
 pub mod Registrars

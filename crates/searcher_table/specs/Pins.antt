@@ -1,9 +1,9 @@
 -- What contracts say of acquires, and of pins.
-use Rattle.std.specs.Prelude.{◌≡◌, ℕ, ◌+◌, ◌<◌, List, [], ◌∷◌, ◌++◌, count_by}
+use Rattle.std.specs.Prelude.{◌≡◌, ◌⊎◌, ℕ, ◌+◌, ◌<◌, List, [], ◌∷◌, ◌++◌, count_by}
 use Rattle.std.specs.Arc.{arc_value}
 use Rattle.atomic_table.specs.Seated.{TableId}
 use Rattle.registry_machine.specs.declared.entry.Entry.{Entry}
-use Rattle.registry_machine.specs.declared.entry.Entry.TheVariants.{Acquire, NotYet, Release}
+use Rattle.registry_machine.specs.declared.entry.Entry.TheVariants.{Acquire, NotYet, Release, Free}
 use Rattle.registry_machine.specs.Legal.{Legal}
 use Rattle.registry_machine.specs.Callers.{mine}
 use Rattle.searcher_table.specs.declared.board.Plan.{Plan}
@@ -28,6 +28,16 @@ pub record HasEntered {W U X L : Type 0} (p : Plan W) (c : ℕ) (k n : Known W U
   pub last : n.seen ≡ before ++ e ∷ []
   pub calls : GoesOn c k.mine k.announced (mine c before) n.announced
   pub grown : n.mine ≡ mine c before ++ e ∷ []
+  pub own : n.mine ≡ mine c n.seen
+  pub steps : n.steps ≡ k.steps + 1
+
+-- after one step more what the caller has seen ends with the freeing of the generation's slot, and it has no entry more but, where what it had announced was executed meanwhile, that call's one
+pub record HasFreed {W U X L : Type 0} (p : Plan W) (c : ℕ) (k n : Known W U X L) (g : ℕ) : Type 0 where
+  pub before : List (Entry U X L)
+  pub seen : StartsWith before k.seen
+  pub legal : Legal (limits p) n.seen
+  pub last : n.seen ≡ before ++ Free g ∷ []
+  pub calls : GoesOn c k.mine k.announced n.mine n.announced
   pub own : n.mine ≡ mine c n.seen
   pub steps : n.steps ≡ k.steps + 1
 
@@ -71,10 +81,12 @@ module _ {D U W X L : Type 0} where
   IsNotAcquired s t IsNotYet = CameTooEarly s t
   IsNotAcquired s t (Spent made) = IsSpent s t made
 
-  -- the caller has released what it pinned
+  -- the caller has released what it pinned; and where nobody used the generation any more, its slot was freed by one step more
   pub record HasReleased (pin : Pin D U W X L) (t : Pass D U W X L) : Type 0 where
     pub same : IsPinOf t pin
-    pub entered : HasEntered (plan_of pin) pin.caller pin.place.me.0 t.place.me.0 (Release pin.caller pin.generation [])
+    pub after : Known W U X L
+    pub entered : HasEntered (plan_of pin) pin.caller pin.place.me.0 after (Release pin.caller pin.generation [])
+    pub ended : (t.place.me.0 ≡ after) ⊎ HasFreed (plan_of pin) pin.caller after t.place.me.0 pin.generation
 
   -- one pin, which has made no step and knows what it knew
   pub record IsSamePin (s t : Pin D U W X L) : Type 0 where

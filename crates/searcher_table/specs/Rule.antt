@@ -1,5 +1,5 @@
 -- The rule of a table: what holds between any two steps.
-use Rattle.std.specs.Prelude.{◌≡◌, ◌⊎◌, ℕ, ◌<◌, ◌≤◌, true, List, [], length, count_by, slice_index, Option, Some, None}
+use Rattle.std.specs.Prelude.{◌≡◌, ◌⊎◌, ℕ, ◌+◌, ◌<◌, ◌≤◌, true, List, [], length, count_by, slice_index, Option, Some, None}
 use Rattle.std.specs.List.{AllByRecursion}
 use mathlib.Core.Option.{some}
 use lib.ListN.{get_elem?}
@@ -14,11 +14,15 @@ use Rattle.searcher_table.specs.declared.board.Plan.{Plan}
 use Rattle.searcher_table.specs.declared.board.Hand.{Hand}
 use Rattle.searcher_table.specs.declared.board.Own.{Own}
 use Rattle.searcher_table.specs.declared.board.Known.{Known}
-use Rattle.searcher_table.specs.Words.{word_count, current_word, slot_word, packed, call_word, code, HasSizes, limits}
+use Rattle.searcher_table.specs.declared.board.Task.{Task}
+use Rattle.searcher_table.specs.declared.board.Task.TheVariants.{Idle}
+use Rattle.searcher_table.specs.declared.board.Fresh.{Fresh}
+use Rattle.searcher_table.specs.Tasks.{IsWarming, Three}
+use Rattle.searcher_table.specs.Words.{word_count, current_word, packed, call_word, code, HasSizes, limits}
 use Rattle.searcher_table.specs.Counts.{is_acquire, is_not_yet, releases, NamesCaller}
 use Rattle.searcher_table.specs.Views.{StartsWith, HasNoPlaceSince, GoesOn}
 
--- what is no function of the history: what each caller has announced, whose seat its pass is and whose its announced call, which seat is the registrar's, and the first caller with no pass yet
+-- what is no function of the history: what each caller has announced, whose seat its pass is and whose its announced call, which seat is the registrar's, the first caller with no pass yet, what each caller has begun with a slot, and the registrar as caller 0, and whose seat can publish a warming generation
 pub record World (U X L : Type 0) : Type 0 where
   pub log : List (Entry U X L)
   pub pending : ℕ → Option (Asked U)
@@ -26,6 +30,8 @@ pub record World (U X L : Type 0) : Type 0 where
   pub hand_at : ℕ → ℕ
   pub registrar_at : ℕ
   pub next : ℕ
+  pub tasks : ℕ → Task
+  pub fresh_at : ℕ → ℕ
 
 -- the first seat, which has the passes of all callers until they are dealt
 abbrev pub opened : {W U X L : Type 0} → Plan W → Known W U X L
@@ -35,6 +41,8 @@ opened p = record {
   mine = [];
   announced = None;
   hand = None;
+  task = Idle;
+  fresh = None;
   seen = [];
   told = [];
   steps = 0;
@@ -49,6 +57,11 @@ module _ {U X L : Type 0} (w : World U X L) (id : ℕ) where
     pub here : w.hand_at h.caller ≡ id
     pub pending : w.pending h.caller ≡ Some h.asked
 
+  -- the seat has the right to a warming generation
+  pub record IsFresh (l : Limits) (f : Fresh) : Type 0 where
+    pub here : w.fresh_at f.generation ≡ id
+    pub warming : IsWarming (state_of l w.log) f
+
   -- a pass that was taken back has all its caller's entries, and nothing is pending
   pub record IsBack (o : Own U X L) : Type 0 where
     pub here : w.pass_at o.caller ≡ id
@@ -62,12 +75,15 @@ module _ {W U X L : Type 0} (w : World U X L) (id : ℕ) where
     pub here : w.pass_at k.caller ≡ id
     pub dealt : k.caller < w.next
     pub calls : GoesOn k.caller k.mine k.announced (mine k.caller w.log) (w.pending k.caller)
+    pub task : k.task ≡ w.tasks k.caller
 
   -- the registrar has seen each entry with a place, and knows who has no pass yet
   pub record IsRegistrar (k : Known W U X L) : Type 0 where
     pub here : w.registrar_at ≡ id
     pub seen : HasNoPlaceSince w.log k.seen
     pub next : k.next ≡ w.next
+    pub nobody : k.caller ≡ 0
+    pub task : k.task ≡ w.tasks 0
 
 -- what a seat knows is true
 pub record Fits {W U X L : Type 0} (p : Plan W) (w : World U X L) (id : ℕ) (k : Known W U X L) : Type 0 where
@@ -76,6 +92,7 @@ pub record Fits {W U X L : Type 0} (p : Plan W) (w : World U X L) (id : ℕ) (k 
   pub told : StartsWith w.log k.told
   pub pass : 1 ≤ k.caller → IsPass w id k
   pub hand : (h : Hand U) → k.hand ≡ Some h → IsHand w id h
+  pub fresh : (f : Fresh) → k.fresh ≡ Some f → IsFresh w id (limits p) f
   pub registrar : k.registrar ≡ true → IsRegistrar w id k
   pub back : AllByRecursion (IsBack w id) k.back
 
@@ -83,7 +100,9 @@ pub record Fits {W U X L : Type 0} (p : Plan W) (w : World U X L) (id : ℕ) (k 
 pub record One {W U X L : Type 0} (p : Plan W) (w : World U X L) (words : List ℕ) (views : List (Known W U X L)) : Type 0 where
   pub calls : (c : ℕ) → 1 ≤ c → c ≤ 64 → slice_index words (call_word c) ≡ code (w.pending c)
   pub fits : (id : ℕ) (k : Known W U X L) → get_elem? views id ≡ some k → Fits p w id k
-  pub undealt : (c : ℕ) → w.next ≤ c → (w.pending c ≡ None) × (mine c w.log ≡ [])
+  pub undealt : (c : ℕ) → w.next ≤ c → (w.pending c ≡ None) × (mine c w.log ≡ []) × (w.tasks c ≡ Idle)
+  pub first : 1 ≤ w.next
+  pub few : w.next ≤ p.callers + 1
 
 -- Nothing is current, and the current word counts the acquires that came too early.
 pub record CountsTooEarly {U X L : Type 0} (l : Limits) (log : List (Entry U X L)) (word : ℕ) : Type 0 where
@@ -101,19 +120,22 @@ pub record IsPacked {U X L : Type 0} (l : Limits) (log : List (Entry U X L)) (wo
 abbrev pub SaysCurrent : {U X L : Type 0} → Limits → List (Entry U X L) → ℕ → Type 0
 SaysCurrent l log word = CountsTooEarly l log word ⊎ IsPacked l log word
 
--- Part two: the current word, the words of slots, and that no caller acquires more often than it may. Nothing is settled yet, so the word of an open slot counts the releases of its generation alone.
+-- Part two: the current word, and that no caller acquires more often than it may.
 pub record Two {W U X L : Type 0} (p : Plan W) (log : List (Entry U X L)) (words : List ℕ) : Type 0 where
   pub sizes : HasSizes p
   pub current : SaysCurrent (limits p) log (slice_index words current_word)
-  pub opened : (slot g : ℕ) → (state_of (limits p) log).slots slot ≡ Some g → slice_index words (slot_word slot) ≡ count_by (releases g) log
-  pub free : (slot : ℕ) → slot < 70 → (state_of (limits p) log).slots slot ≡ None → slice_index words (slot_word slot) ≡ 0
   pub named : AllByRecursion NamesCaller log
   pub within : (c : ℕ) → count_by is_acquire (mine c log) ≤ p.budget
 
--- There is one legal history. (Part three will be on masks and doors.)
+-- how often each generation was released
+abbrev pub released : {U X L : Type 0} → List (Entry U X L) → ℕ → ℕ
+released log g = count_by (releases g) log
+
+-- There is one legal history. (Part four will be on doors.)
 pub record Kept {D W U X L : Type 0} (p : Plan W) (s : State (Cell D U) (Known W U X L)) : Type 0 where
   pub words : length s.words ≡ word_count
   pub world : World U X L
   pub legal : Legal (limits p) world.log
   pub one : One p world s.words s.views
   pub two : Two p world.log s.words
+  pub three : Three p (state_of (limits p) world.log) (released world.log) (world.tasks 0) world.tasks s.words

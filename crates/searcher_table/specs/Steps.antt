@@ -1,9 +1,11 @@
 -- What each kind of step tells the seat that makes it, and how views are split and joined.
-use Rattle.std.specs.Prelude.{◌≡◌, ◌⊎◌, ℕ, ◌+◌, ◌<◌, ◌≤◌, ◌/◌, ◌%◌, ◌==◌, if◌then◌else◌, true, false, List, [], ◌∷◌, ◌++◌, length, Option, Some, None}
+use Rattle.std.specs.Prelude.{◌≡◌, ◌≢◌, ◌⊎◌, ℕ, ◌+◌, ◌<◌, ◌≤◌, ◌/◌, ◌%◌, ◌==◌, if◌then◌else◌, true, false, List, [], ◌∷◌, ◌++◌, length, Option, Some, None}
+use Rattle.std.specs.Int.{trailing_zeros}
+use mir.Syntax.{w64}
 use mathlib.Core.Option.{some}
 use Rattle.atomic_table.specs.Table.{Me, Step}
 use Rattle.registry_machine.specs.declared.entry.Entry.{Entry}
-use Rattle.registry_machine.specs.declared.entry.Entry.TheVariants.{Open, TooMany, GenerationsSpent, Update, Acquire, NotYet, Release}
+use Rattle.registry_machine.specs.declared.entry.Entry.TheVariants.{Open, TooMany, GenerationsSpent, Update, Acquire, NotYet, Release, Free}
 use Rattle.registry_machine.specs.Machine.{Limits}
 use Rattle.registry_machine.specs.Legal.{Legal, state_of}
 use Rattle.registry_machine.specs.Callers.{mine}
@@ -15,9 +17,16 @@ use Rattle.searcher_table.specs.declared.board.Cell.TheVariants.{Full, Said}
 use Rattle.searcher_table.specs.declared.board.Plan.{Plan}
 use Rattle.searcher_table.specs.declared.board.Hand.{Hand}
 use Rattle.searcher_table.specs.declared.board.Known.{Known}
-use Rattle.searcher_table.specs.Words.{limits}
+use Rattle.searcher_table.specs.declared.board.Task.{Task}
+use Rattle.searcher_table.specs.declared.board.Task.TheVariants.{Idle, Found, Claimed, Cleared, Duty}
+use Rattle.searcher_table.specs.declared.board.Fresh.{Fresh}
+use Rattle.searcher_table.specs.Words.{slot_word, limits}
 use Rattle.searcher_table.specs.Counts.{pinned}
 use Rattle.searcher_table.specs.Views.{StartsWith, HasNoPlaceSince, GoesOn}
+
+-- what is begun by the release that found this word of a slot: the slot is to be freed where its generation is settled and this was the last release
+abbrev pub duty_by : ℕ → ℕ → ℕ → Task
+duty_by word slot g = if word / 4294967296 == word % 4294967296 + 2 then Duty slot g else Idle
 
 module _ {U X L : Type 0} where
   -- the current word tells that nothing is current, or the current generation, its slot and its acquires
@@ -40,9 +49,9 @@ module _ {U X L : Type 0} where
   acquire_of c word = if word / 549755813888 == 0 then NotYet c else Acquire c (word / 549755813888) (word % 4294967296)
 
 module _ {W U X L : Type 0} where
-  -- the entry of an opening that shows these documents
-  abbrev pub opening_of : Plan W → List (Entry U X L) → Hand U → X → Entry U X L
-  opening_of p seen h shown = Open h.caller h.asked.content ((state_of (limits p) seen).last_opened + 1) (length (state_of (limits p) seen).warming) shown
+  -- the entry of an opening in this slot that shows these documents
+  abbrev pub opening_of : Plan W → List (Entry U X L) → Hand U → ℕ → X → Entry U X L
+  opening_of p seen h slot shown = Open h.caller h.asked.content ((state_of (limits p) seen).last_opened + 1) slot shown
 
   -- the entry of a call that opens nothing: an update's, or the refusal of an opening
   abbrev pub refusal_of : Plan W → List (Entry U X L) → Hand U → Entry U X L
@@ -64,6 +73,8 @@ module _ {W U X L : Type 0} where
     mine = [];
     announced = None;
     hand = None;
+    task = Idle;
+    fresh = None;
     seen = seen;
     told = [];
     steps = 0;
@@ -72,12 +83,19 @@ module _ {W U X L : Type 0} where
     back = [];
   }
 
-  -- what was announced goes to a seat of its own, which has seen as much
+  -- what was announced or opened goes to a seat of its own, which has seen as much
   abbrev pub kept_back : Known W U X L → Known W U X L
-  kept_back k = record k { hand = None }
+  kept_back k = record k { hand = None; fresh = None }
 
   abbrev pub handed_out : Known W U X L → Known W U X L
-  handed_out k = record (bystander k.plan k.seen) { hand = k.hand }
+  handed_out k = record (bystander k.plan k.seen) { hand = k.hand; fresh = k.fresh }
+
+  -- a seat of its own has seen as much
+  abbrev pub still : Known W U X L → Known W U X L
+  still k = k
+
+  abbrev pub told_of : Known W U X L → Known W U X L
+  told_of k = bystander k.plan k.seen
 
   -- the next caller's pass goes to a seat of its own
   abbrev pub keeps_others : Known W U X L → Known W U X L
@@ -86,9 +104,9 @@ module _ {W U X L : Type 0} where
   abbrev pub dealt_out : Known W U X L → Known W U X L
   dealt_out k = record (bystander k.plan []) { caller = k.next }
 
-  -- a seat that takes in another is told what that one had seen, and has its announced call
+  -- a seat that takes in another is told what that one had seen, and has its announced call, or what it opened
   abbrev pub joined : Known W U X L → Known W U X L → Known W U X L
-  joined k other = record k { hand = other.hand; told = other.seen }
+  joined k other = record k { hand = other.hand; fresh = other.fresh; told = other.seen }
 
   -- a pass that is taken back leaves what it had seen and its caller's entries
   abbrev pub taken_back : Known W U X L → Known W U X L → Known W U X L
@@ -146,33 +164,72 @@ module _ {W U X L : Type 0} where
       pub none : pending before.0.caller ≡ None
       pub after : new ≡ (record (looked before.0 log pending) { hand = None }, before.1)
 
-    -- the call in hand has this entry, behind a history that covers what the registrar had seen and was told
-    pub record HasExecuted (e : Entry U X L) (before new : Me (Cell D U) (Known W U X L)) : Type 0 where
+    -- the history so far was seen, and the seat has this task and may publish this
+    pub record HasTurned (task : Task) (fresh : Option Fresh) (before new : Me (Cell D U) (Known W U X L)) : Type 0 where
+      pub log : List (Entry U X L)
+      pub pending : ℕ → Option (Asked U)
+      pub covers : Covers before.0 log
+      pub after : new ≡ (record (looked before.0 log pending) { hand = None; task = task; fresh = fresh }, before.1)
+
+    -- this entry stands behind a history that covers what the seat had seen and was told; it has this task and may publish this
+    pub record HasExecuted (e : Entry U X L) (task : Task) (fresh : Option Fresh) (before new : Me (Cell D U) (Known W U X L)) : Type 0 where
       pub log : List (Entry U X L)
       pub pending : ℕ → Option (Asked U)
       pub covers : Covers before.0 log
       pub legal : (p : Plan W) → before.0.plan ≡ Some p → Legal (limits p) (log ++ e ∷ [])
-      pub after : new ≡ (record (looked before.0 (log ++ e ∷ []) pending) { hand = None }, before.1)
+      pub after : new ≡ (record (looked before.0 (log ++ e ∷ []) pending) { hand = None; task = task; fresh = fresh }, before.1)
 
+    -- the call in hand has its entry
     abbrev pub Executed : Step (Cell D U) → Me (Cell D U) (Known W U X L) → ℕ → Me (Cell D U) (Known W U X L) → Type 0
     Executed step before stored after = (h : Hand U) (p : Plan W) → before.0.hand ≡ Some h → before.0.plan ≡ Some p
-        → HasExecuted (answer_of h.asked.call p before.0.seen h) before after
+        → HasExecuted (answer_of h.asked.call p before.0.seen h) before.0.task before.0.fresh before after
 
-    -- the opening in hand has the next generation, in the slot behind those of the warming ones, with the documents of this door
+    -- the opening in hand has the next generation, in the slot that was cleared, with the documents of this door
     abbrev pub Opened : (D → X) → Step (Cell D U) → Me (Cell D U) (Known W U X L) → ℕ → Me (Cell D U) (Known W U X L) → Type 0
-    Opened docs step before found after = (h : Hand U) (p : Plan W) (door : D) → before.0.hand ≡ Some h → before.0.plan ≡ Some p → step.said ≡ some (Full door)
-        → HasExecuted (opening_of p before.0.seen h (docs door)) before after
+    Opened docs step before found after = (h : Hand U) (p : Plan W) (slot : ℕ) (door : D) → before.0.hand ≡ Some h → before.0.plan ≡ Some p → before.0.task ≡ Cleared slot → step.said ≡ some (Full door)
+        → HasExecuted (opening_of p before.0.seen h slot (docs door)) Idle (Some (record { generation = (state_of (limits p) before.0.seen).last_opened + 1; slot = slot })) before after
 
     -- the caller has this entry last, behind those that it had and, where what it had announced was executed meanwhile, that call's one
-    pub record HasMade (e : Entry U X L) (before new : Me (Cell D U) (Known W U X L)) : Type 0 where
-      pub entered : HasExecuted e before new
+    pub record HasMade (e : Entry U X L) (task : Task) (before new : Me (Cell D U) (Known W U X L)) : Type 0 where
+      pub entered : HasExecuted e task before.0.fresh before new
       pub calls : 1 ≤ before.0.caller → GoesOn before.0.caller before.0.mine before.0.announced (mine before.0.caller entered.log) (entered.pending before.0.caller)
 
     -- the current word counts one acquire more
     pub record Acquired (step : Step (Cell D U)) (before : Me (Cell D U) (Known W U X L)) (found : ℕ) (new : Me (Cell D U) (Known W U X L)) : Type 0 where
-      pub made : HasMade (acquire_of before.0.caller found) before new
+      pub made : HasMade (acquire_of before.0.caller found) before.0.task before new
       pub tells : (p : Plan W) → before.0.plan ≡ Some p → TellsCurrent (limits p) made.entered.log found
 
-    -- the generation that the caller pinned is released
+    -- the generation that the caller pinned is released, and its slot is to be freed where the word says so
     abbrev pub Released : Step (Cell D U) → Me (Cell D U) (Known W U X L) → ℕ → Me (Cell D U) (Known W U X L) → Type 0
-    Released step before found after = (g : ℕ) → pinned before.0.caller before.0.mine ≡ Some g → HasMade (Release before.0.caller g []) before after
+    Released step before found after = (slot g : ℕ) → step.word ≡ slot_word slot → pinned before.0.caller before.0.mine ≡ Some g
+        → HasMade (Release before.0.caller g []) (duty_by found slot g) before after
+
+    -- the slot is free again
+    abbrev pub Freed : Step (Cell D U) → Me (Cell D U) (Known W U X L) → ℕ → Me (Cell D U) (Known W U X L) → Type 0
+    Freed step before found after = (slot g : ℕ) → before.0.task ≡ Duty slot g → HasMade (Free g) Idle before after
+
+    -- ---- a slot for an opening
+
+    -- a free slot was found: the first one of mask word 0, or where it has none, one of the other word
+    pub record Scanned (step : Step (Cell D U)) (before : Me (Cell D U) (Known W U X L)) (found : ℕ) (new : Me (Cell D U) (Known W U X L)) : Type 0 where
+      pub slot : ℕ
+      pub turned : HasTurned (Found slot) before.0.fresh before new
+      pub other : found ≡ 0 → 64 ≤ slot
+      pub first : found ≢ 0 → slot ≡ trailing_zeros w64 found
+
+    -- and then the first one of that word
+    pub record ScannedOn (step : Step (Cell D U)) (before : Me (Cell D U) (Known W U X L)) (found : ℕ) (new : Me (Cell D U) (Known W U X L)) : Type 0 where
+      pub some : found ≢ 0
+      pub turned : HasTurned (Found (64 + trailing_zeros w64 found)) before.0.fresh before new
+
+    -- the slot that was found is claimed
+    abbrev pub Took : Step (Cell D U) → Me (Cell D U) (Known W U X L) → ℕ → Me (Cell D U) (Known W U X L) → Type 0
+    Took step before found after = (slot : ℕ) → before.0.task ≡ Found slot → HasTurned (Claimed slot) before.0.fresh before after
+
+    -- and its word is 0; it is open for none
+    pub record HasWiped (slot : ℕ) (before new : Me (Cell D U) (Known W U X L)) : Type 0 where
+      pub turned : HasTurned (Cleared slot) before.0.fresh before new
+      pub free : (p : Plan W) → before.0.plan ≡ Some p → (slot < (limits p).slots) × ((state_of (limits p) turned.log).slots slot ≡ None)
+
+    abbrev pub Wiped : Step (Cell D U) → Me (Cell D U) (Known W U X L) → ℕ → Me (Cell D U) (Known W U X L) → Type 0
+    Wiped step before stored after = (slot : ℕ) → before.0.task ≡ Claimed slot → HasWiped slot before after

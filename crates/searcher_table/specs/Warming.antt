@@ -1,5 +1,5 @@
--- Which generations are warming, and which slots are open for none.
-use Rattle.std.specs.Prelude.{◌≡◌, ℕ, ◌≤◌, List, length, Some, None}
+-- Which generations are warming, and for which one a slot is open.
+use Rattle.std.specs.Prelude.{◌≡◌, ℕ, List, Some}
 use Rattle.registry_machine.specs.declared.entry.Entry.{Entry}
 use Rattle.registry_machine.specs.Legal.{state_of}
 use Rattle.searcher_table.specs.declared.board.Plan.{Plan}
@@ -22,7 +22,3 @@ module _ {W U X L : Type 0} (p : Plan W) (seen : List (Entry U X L)) where
   -- the slot is open for the generation
   abbrev pub IsOpenFor : ℕ → ℕ → Type 0
   IsOpenFor slot g = (state_of (limits p) seen).slots slot ≡ Some g
-
-  -- the slots behind those of the warming generations are open for none
-  abbrev pub AreUnused : Type 0
-  AreUnused = (slot : ℕ) → length warming_in ≤ slot → (state_of (limits p) seen).slots slot ≡ None

@@ -1,5 +1,6 @@
 -- The words of a table, and what its machine allows.
-use Rattle.std.specs.Prelude.{◌≡◌, ℕ, ◌+◌, ◌*◌, ◌≤◌, Option, Some, None}
+use Rattle.std.specs.Prelude.{◌≡◌, ℕ, ◌+◌, ◌*◌, ◌/◌, ◌%◌, ◌≤◌, List, slice_index, Option, Some, None}
+use Rattle.std.specs.Int.{bit_at}
 use Rattle.registry_machine.specs.Machine.{Limits}
 use Rattle.searcher_table.specs.declared.board.Call.{Call}
 use Rattle.searcher_table.specs.declared.board.Call.TheVariants.{Open, Update}
@@ -17,6 +18,13 @@ current_word = 8
 
 abbrev pub slot_word : ℕ → ℕ
 slot_word slot = 64 + 8 * slot
+
+-- the mask word of a slot, and its bit there
+abbrev pub mask_word : ℕ → ℕ
+mask_word slot = 24 + 8 * (slot / 64)
+
+abbrev pub bit_of : List ℕ → ℕ → ℕ
+bit_of words slot = bit_at (slice_index words (mask_word slot)) (slot % 64)
 
 -- the current word: the generation in 25 bits, its slot in 7, and the count of its acquires in 32
 abbrev pub packed : ℕ → ℕ → ℕ → ℕ

@@ -24,6 +24,9 @@ pub(crate) const SLOT: u64 = 4_294_967_296;
 /// The word that the registrar reads to see the history.
 pub(crate) const REGISTRAR: usize = 16;
 
+/// The mask word of slots 0 to 63, whose bit is 1 where the slot is free. That of the others is the next one.
+pub(crate) const MASKS: usize = 24;
+
 /// The word of slot 0: slot s has the s-th cache line behind. It counts the releases of the generation in the slot.
 pub(crate) const SLOTS: usize = 64;
 
@@ -120,6 +123,42 @@ pub struct Own<U, X, L> {
     pub mine: LinkedList<Entry<U, X, L>>,
 }
 
+/// What a seat has begun with a slot and has not ended. All but the last are the registrar's alone. No value of it is made.
+pub enum Task {
+    /// Nothing.
+    Idle,
+    /// The slot was found to be free.
+    Found {
+        slot: u32,
+    },
+    /// The slot was claimed.
+    Claimed {
+        slot: u32,
+    },
+    /// The slot was claimed, and its word is 0.
+    Cleared {
+        slot: u32,
+    },
+    /// The generation in the slot is neither warming nor current any more, and its acquires, so many, are not told to
+    /// the slot's word yet.
+    Unsettled {
+        slot: u32,
+        generation: u32,
+        total: u32,
+    },
+    /// The slot has to be freed, since nobody uses the generation any more.
+    Duty {
+        slot: u32,
+        generation: u32,
+    },
+}
+
+/// The right to have a warming generation published. No value of it is made.
+pub struct Fresh {
+    pub generation: u32,
+    pub slot: u32,
+}
+
 /// What a seat knows. No value of it is made.
 pub struct Known<W, U, X, L> {
     /// What the table was told. A seat that was joined into another knows nothing.
@@ -132,6 +171,10 @@ pub struct Known<W, U, X, L> {
     pub announced: Option<Asked<U>>,
     /// The announced call that this seat can execute or withdraw.
     pub hand: Option<Hand<U>>,
+    /// What it has begun with a slot.
+    pub task: Task,
+    /// The warming generation that this seat can publish.
+    pub fresh: Option<Fresh>,
     /// A beginning of the history.
     pub seen: LinkedList<Entry<U, X, L>>,
     /// What the seat that was joined last had seen.

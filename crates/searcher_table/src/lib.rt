@@ -6,6 +6,7 @@
 #![tactic(auto)]
 
 mod board;
+mod claim;
 mod gens;
 mod making;
 mod pass;

@@ -2,7 +2,7 @@ ghost use Rattle.std.specs.Prelude.{◌≡◌, ◌≤◌, length, IfOk};
 ghost use Rattle.searcher_table.specs.Making.{setting_of, IsFor, AreDealt, IsOpening};
 
 use crate::NoMemory;
-use crate::board::{CELLS, Cell, Link, Plan, SharedTable, Table, WORDS};
+use crate::board::{CELLS, Cell, Link, MASKS, Plan, SharedTable, Table, WORDS};
 use crate::gens::Gens;
 use crate::pass::Pass;
 use crate::plays::Deal;
@@ -66,7 +66,7 @@ fn deal<D: Shown, U: Drop>(
     requires budget { budget ≡ (plan_of registrar.old).budget }
     requires room { vec_len passes.old < vec_capacity passes.old }
     requires next { IsNext registrar.old passes.old.items caller }
-    requires few { caller ≤ 64 }
+    requires few { caller ≤ (plan_of registrar.old).callers }
     requires passes { ArePassesOf registrar.old passes.old.items }
     ensures passes { IfOk result (λ _. ArePassesOf registrar.new passes.new.items) }
     ensures next { IfOk result (λ _. IsNext registrar.new passes.new.items (caller + 1)) }
@@ -78,7 +78,18 @@ fn deal<D: Shown, U: Drop>(
     Ok(())
 }
 
-ghost use Rattle.std.specs.Prelude.{◌*◌};
+ghost use Rattle.std.specs.Prelude.{◌*◌, ◌-◌, ◌^◌};
+
+// So many bits, from the lowest on.
+fn ones(count: u32) -> u64
+    requires { count ≤ 64 }
+    ensures { result ≡ 2 ^ count - 1 }
+{
+    if count == 64 {
+        return u64::MAX;
+    }
+    (1 << count) - 1
+}
 
 // Cells without doors.
 fn empty_cells<D: Shown, U: Drop>(alloc: Global, count: usize) -> Result<Vec<Cell<D, U>>, NoMemory>
@@ -133,9 +144,12 @@ impl<D: Shown, U: Drop> Registrar<D, U> {
         ensures opening { IfOk result IsOpening }
         ensures next { IfOk result (λ r. next_of r ≡ 1) }
     {
-        let count = (plan.callers + plan.max_warming + 2) as usize * CELLS;
-        let cells = empty_cells(alloc, count)?;
-        let Ok((table, place)) = Table::new(alloc, &[0; WORDS], cells, plan) else {
+        let slots = plan.callers + plan.max_warming + 2;
+        let cells = empty_cells(alloc, slots as usize * CELLS)?;
+        let mut words = [0; WORDS];
+        words[MASKS] = ones(slots.min(64));
+        words[MASKS + 8] = ones(slots.saturating_sub(64));
+        let Ok((table, place)) = Table::new(alloc, &words, cells, plan) else {
             return Err(NoMemory);
         };
         let Ok(table) = Arc::new(alloc, table) else {
@@ -156,7 +170,8 @@ impl<D: Shown, U: Drop> Registrar<D, U> {
     // Deals the next caller's pass.
     fn deal(&mut self, caller: u32, budget: u32) -> Result<Pass<D, U>, NoMemory>
         requires budget { budget ≡ (plan_of self.old).budget }
-        requires next { (next_of self.old ≡ caller) × (1 ≤ caller) × (caller ≤ 64) }
+        requires next { (next_of self.old ≡ caller) × (1 ≤ caller) }
+        requires few { caller ≤ (plan_of self.old).callers }
         ensures registrar { IfOk result (λ _. HasDealt self.old self.new) }
         ensures pass { IfOk result (λ pass. IsNewPass self.new caller pass) }
     {

@@ -1,6 +1,7 @@
 ghost use Rattle.std.specs.Prelude.{◌≡◌, ◌≤◌, [], Some, None, count_by};
 ghost use Rattle.std.specs.Arc.{arc_value};
 ghost use Rattle.registry_machine.specs.Callers.{mine};
+ghost use Rattle.searcher_table.specs.declared.board.Task.TheVariants.{Idle};
 ghost use Rattle.searcher_table.specs.Counts.{is_acquire, pinned};
 
 use crate::board::{Asked, CALLS, Call, Cell, Place, SharedTable};
@@ -28,6 +29,7 @@ pub struct Pass<D: Shown, U: Drop> {
     ghost within: { made ≤ budget },
     ghost unpinned: { pinned caller place.me.0.mine ≡ None },
     ghost empty_handed: { place.me.0.hand ≡ None },
+    ghost idle: { place.me.0.task ≡ Idle },
     ghost none_back: { place.me.0.back ≡ [] },
     ghost bare: { place.me.1 ≡ [] },
 }

@@ -1,12 +1,13 @@
 ghost use Rattle.std.specs.Prelude.{◌≡◌, ◌≤◌, ◌<◌, [], Some, None, count_by};
 ghost use Rattle.std.specs.Arc.{arc_value};
 ghost use Rattle.registry_machine.specs.Callers.{mine};
+ghost use Rattle.searcher_table.specs.declared.board.Task.TheVariants.{Idle};
 ghost use Rattle.searcher_table.specs.Counts.{is_acquire, pinned};
 ghost use Rattle.searcher_table.specs.Warming.{IsOpenFor};
 
-use crate::board::{CURRENT, GENERATION, Place, SLOT, SLOTS, SharedTable};
+use crate::board::{CURRENT, GENERATION, MASKS, Place, SLOT, SLOTS, SharedTable};
 use crate::pass::Pass;
-use crate::plays::{Acquire, HandOut, Release};
+use crate::plays::{Acquire, Free, HandOut, Release};
 use crate::shown::Shown;
 use crate::tokens::Sighting;
 
@@ -37,6 +38,7 @@ pub struct Pin<D: Shown, U: Drop> {
     ghost opened: { IsOpenFor (arc_value table).shared.key place.me.0.seen slot generation },
     ghost below: { slot < 70 },
     ghost empty_handed: { place.me.0.hand ≡ None },
+    ghost idle: { place.me.0.task ≡ Idle },
     ghost none_back: { place.me.0.back ≡ [] },
     ghost bare: { place.me.1 ≡ [] },
 }
@@ -134,7 +136,8 @@ impl<D: Shown, U: Drop> Pin<D, U> {
         Sighting { place }
     }
 
-    /// Lets the generation go. It is one addition to the slot's word, takes no memory and doesn't wait.
+    /// Lets the generation go. It is one addition to the slot's word and, where nobody uses the generation any more, one
+    /// step more, which frees its slot. It takes no memory and doesn't wait.
     pub fn release(self) -> Pass<D, U>
         ensures { HasReleased self result }
     {
@@ -149,7 +152,20 @@ impl<D: Shown, U: Drop> Pin<D, U> {
             table,
         } = self;
         let word = SLOTS + 8 * slot as usize;
-        table.shared.fetch_add::<Release>(&mut place, word, 1);
+        let found = table.shared.fetch_add::<Release>(&mut place, word, 1);
+        if found / SLOT != found % SLOT + 2 {
+            return Pass {
+                caller,
+                made,
+                budget,
+                place,
+                table,
+            };
+        }
+        let mask = MASKS + 8 * (slot as usize / 64);
+        table
+            .shared
+            .fetch_or::<Free>(&mut place, mask, 1 << (slot % 64));
         Pass {
             caller,
             made,

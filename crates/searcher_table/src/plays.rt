@@ -1,6 +1,6 @@
 // The kinds of step, which are for the proofs alone.
 ghost use Rattle.searcher_table.specs.Steps.{Looked, Peeked, Announced, Withdrawn, Executed, kept_back, handed_out, keeps_others, dealt_out, joined, taken_back, spent};
-ghost use Rattle.searcher_table.specs.Steps.{Opened, Acquired, Released};
+ghost use Rattle.searcher_table.specs.Steps.{Opened, Acquired, Released, Freed, Scanned, ScannedOn, Took, Wiped, still, told_of};
 
 use crate::board::{Cell, Known};
 use crate::shown::Shown;
@@ -62,7 +62,51 @@ impl<D: Shown, U> Play<Cell<D, U>, Known<D::Setting, U, D::Docs, D::Deed>> for R
     ghost then = { Released };
 }
 
-// What was seen goes along to a seat of its own, with what was announced, if anything is.
+// The bit of a slot is 1 again, whose generation nobody uses any more.
+pub(crate) struct Free;
+
+impl<D: Shown, U> Play<Cell<D, U>, Known<D::Setting, U, D::Docs, D::Deed>> for Free {
+    ghost then = { Freed };
+}
+
+// Mask word 0 is read, and a free slot found there or, where it has none, known to be in the other word.
+pub(crate) struct Scan;
+
+impl<D: Shown, U> Play<Cell<D, U>, Known<D::Setting, U, D::Docs, D::Deed>> for Scan {
+    ghost then = { Scanned };
+}
+
+// The other mask word is read, and a free slot found there.
+pub(crate) struct ScanOn;
+
+impl<D: Shown, U> Play<Cell<D, U>, Known<D::Setting, U, D::Docs, D::Deed>> for ScanOn {
+    ghost then = { ScannedOn };
+}
+
+// The bit of the slot that was found is 0.
+pub(crate) struct Take;
+
+impl<D: Shown, U> Play<Cell<D, U>, Known<D::Setting, U, D::Docs, D::Deed>> for Take {
+    ghost then = { Took };
+}
+
+// The word of the claimed slot is 0.
+pub(crate) struct Wipe;
+
+impl<D: Shown, U> Play<Cell<D, U>, Known<D::Setting, U, D::Docs, D::Deed>> for Wipe {
+    ghost then = { Wiped };
+}
+
+// What was seen goes along to a seat of its own.
+pub(crate) struct Sight;
+
+impl<W, U, X, L> Split<Known<W, U, X, L>> for Sight {
+    ghost left = { still };
+
+    ghost right = { told_of };
+}
+
+// What was seen goes along to a seat of its own, with what was announced or opened, if anything is.
 pub(crate) struct HandOut;
 
 impl<W, U, X, L> Split<Known<W, U, X, L>> for HandOut {

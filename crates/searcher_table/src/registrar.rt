@@ -2,11 +2,13 @@ ghost use Rattle.std.specs.Prelude.{◌≡◌, ◌+◌, ◌≤◌, true, [], Som
 ghost use Rattle.std.specs.Arc.{arc_value};
 ghost use Rattle.registry_machine.specs.Entries.{has_place};
 ghost use Rattle.searcher_table.specs.Spares.{AreAt};
-ghost use Rattle.searcher_table.specs.Warming.{listed, last_in, warming_in, AreUnused};
+ghost use Rattle.searcher_table.specs.Warming.{listed, last_in, warming_in};
+ghost use Rattle.searcher_table.specs.declared.board.Task.TheVariants.{Idle};
 
 use crate::board::{
     CALLS, CURRENT, Cell, GENERATION, LAST_GENERATION, Link, Place, REGISTRAR, SLOT, SharedTable,
 };
+use crate::claim::claim;
 use crate::gens::Gens;
 use crate::pass::Pass;
 use crate::plays::{Execute, Gather, HandOut, Look, OpenNext, Peek, TakeBack};
@@ -36,12 +38,13 @@ pub struct Registrar<D: Shown, U: Drop> {
     ghost most: { max_warming ≡ (arc_value table).shared.key.max_warming },
     ghost few: { max_warming ≤ 4 },
     ghost some: { 1 ≤ (arc_value table).shared.key.callers },
+    ghost few_callers: { (arc_value table).shared.key.callers ≤ 64 },
     ghost last_is: { last ≡ last_in (arc_value table).shared.key place.me.0.seen },
     ghost warming_are: { listed warming ≡ warming_in (arc_value table).shared.key place.me.0.seen },
     ghost spares: { AreAt place.table_id spare.items },
     ghost enough: { length spare.items + length (listed warming) ≡ max_warming },
     ghost within: { last ≤ 33554431 },
-    ghost unused: { AreUnused (arc_value table).shared.key place.me.0.seen },
+    ghost idle: { place.me.0.task ≡ Idle },
     ghost empty_handed: { place.me.0.hand ≡ None },
     ghost bare: { place.me.1 ≡ [] },
 }
@@ -146,6 +149,7 @@ impl<D: Shown, U: Drop> Registrar<D, U> {
             asked: _asked,
             place,
         } = call;
+        let slot = claim(&self.table, &mut self.place);
         let word = CALLS + 8 * caller as usize;
         let said = Cell::Full(door);
         let shared = &self.table.shared;
@@ -158,6 +162,7 @@ impl<D: Shown, U: Drop> Registrar<D, U> {
         self.warming.add(self.last);
         Opening {
             generation: self.last,
+            slot,
             at,
             seat,
             link,

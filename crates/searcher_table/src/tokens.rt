@@ -1,9 +1,9 @@
-ghost use Rattle.std.specs.Prelude.{◌≡◌, ◌≤◌, [], Some, None};
+ghost use Rattle.std.specs.Prelude.{◌≡◌, ◌≤◌, ◌<◌, [], Some, None};
 ghost use Rattle.std.specs.Arc.{arc_value};
 
 use crate::board::{Asked, Link, Place};
 use crate::gens::Gens;
-use crate::plays::HandOut;
+use crate::plays::Sight;
 use crate::shown::Shown;
 
 /// A call that its caller announced. It has to be executed or withdrawn.
@@ -27,6 +27,8 @@ pub struct Sighting<D: Shown, U: Drop> {
 #[derive(Drop)]
 pub struct Opening<D: Shown, U: Drop> {
     pub(crate) generation: u32,
+    // The slot that it has.
+    pub(crate) slot: u32,
     // The place of its entry.
     pub(crate) at: u64,
     pub(crate) seat: Place<D, U, D::Setting, D::Docs, D::Deed>,
@@ -34,6 +36,8 @@ pub struct Opening<D: Shown, U: Drop> {
     pub(crate) link: Link<D, U>,
     ghost at_table: { seat.table_id ≡ (arc_value link.table).shared.table_id },
     ghost sized: { seat.table_id.words ≡ 1168 },
+    ghost warming: { seat.me.0.fresh ≡ Some (record { generation = generation; slot = slot }) },
+    ghost below: { slot < 70 },
     ghost empty_handed: { seat.me.0.hand ≡ None },
     ghost bare: { seat.me.1 ≡ [] },
 }
@@ -61,7 +65,7 @@ impl<D: Shown, U: Drop> Opening<D, U> {
         ensures opening { IsSameOpening self.old self.new }
         ensures note { IsNoteOf self.new result }
     {
-        let place = self.link.table.shared.split_seat::<HandOut>(&mut self.seat);
+        let place = self.link.table.shared.split_seat::<Sight>(&mut self.seat);
         Sighting { place }
     }
 }

@@ -1,8 +1,8 @@
 -- A caller that announces a call, has it executed and meets what has seen it has just this entry more.
-use Rattle.std.proofs.Common.{true, ◌≡◌, ℕ, ◌+◌, List, [], ◌∷◌, ◌++◌, length, length-append, append-nil, append_assoc, count_by, refl, sym, ap, ◌∙◌, subst, ⊎_elim, arith, Some, None}
+use Rattle.std.proofs.Common.{true, ◌≡◌, ℕ, ◌+◌, List, [], ◌∷◌, ◌++◌, length, length-append, append-nil, append_assoc, count_by, refl, sym, ap, ◌∙◌, subst, ⊎_elim, arith, Option, Some, None}
 use Rattle.std.proofs.lemmas.List.{append_cancel_left}
 use Rattle.registry_machine.specs.declared.entry.Entry.{Entry}
-use Rattle.registry_machine.specs.declared.entry.Entry.TheVariants.{Open, TooMany, GenerationsSpent, Update}
+use Rattle.registry_machine.specs.declared.entry.Entry.TheVariants.{Open, TooMany, GenerationsSpent, Update, Acquire, Release}
 use Rattle.registry_machine.specs.Entries.{caller_of, has_place}
 use Rattle.registry_machine.specs.Callers.{mine}
 use Rattle.searcher_table.specs.declared.board.Call.TheVariants.{Open as ToOpen, Update as ToUpdate}
@@ -16,11 +16,15 @@ use Rattle.searcher_table.specs.declared.tokens.OpenRefusal.{OpenRefusal}
 use Rattle.searcher_table.specs.declared.tokens.OpenRefusal.TheVariants.{TooMany as AsTooMany, GenerationsSpent as AsSpent}
 use Rattle.searcher_table.specs.Warming.{listed}
 use Rattle.searcher_table.specs.Openings.{HasOpened, IsRefused}
-use Rattle.searcher_table.specs.Views.{IsStill, WasExecuted}
+use Rattle.std.proofs.lemmas.Option.{none-some}
+use Rattle.searcher_table.specs.declared.board.Asked.{Asked}
+use Rattle.searcher_table.specs.declared.pin.Pin.{Pin}
+use Rattle.searcher_table.specs.Pins.{HasAcquired, HasReleased, HasFreed, plan_of as plan_of_pin}
+use Rattle.searcher_table.specs.Views.{IsStill, WasExecuted, GoesOn}
 use Rattle.searcher_table.specs.Passes.{seen_of, mine_of, announced_of, sighted, HasSeenMore, HasLooked, HasAnnounced, HasMet, IsAnnouncedBy}
 use Rattle.searcher_table.specs.Making.{IsNewPass, AreDealt}
 use Rattle.searcher_table.specs.Registrars.{seen_of as seen_by, IsUnchanged, IsSightingOf, HasEntry, HasUpdated}
-use Rattle.table_rows.specs.TableTrials.{HasOneMore, HasOneOpeningMore, HasOneCallMore}
+use Rattle.table_rows.specs.TableTrials.{HasNothingOut, HasHeld, HasOneMore, HasOneOpeningMore, HasOneCallMore}
 use Rattle.std.specs.Prelude.{slice_get}
 use Rattle.searcher_table.proofs.Row.{got_here, got_before}
 use Rattle.searcher_table.proofs.Frame.{own_joined}
@@ -50,6 +54,31 @@ module _ {D U W X L : Type 0} where
       (λ (x : IsStill s.caller (mine_of s) (announced_of s) (mine_of t) (announced_of t)). x.announced ∙ none)
       (λ (x : WasExecuted s.caller (mine_of s) (announced_of s) (mine_of t) (announced_of t)). x.none)
       l.calls
+
+  -- what a caller with nothing announced has after a step
+  still : (c : ℕ) (had has : List (Entry U X L)) (a b : Option (Asked U)) → a ≡ None → GoesOn c had a has b → (has ≡ had) × (b ≡ None)
+  still c had has a b none calls = ⊎_elim
+      (λ (x : IsStill c had a has b). (x.mine, x.announced ∙ none))
+      (λ (x : WasExecuted c had a has b). absurd (none-some x.asked (sym none ∙ x.announced)))
+      calls
+
+  -- an acquire and its release are two entries more, whether or not the release was the last one
+  pub two_more : (s : Pass D U W X L) (pin : Pin D U W X L) (t : Pass D U W X L) → announced_of s ≡ None → HasAcquired s pin → HasReleased pin t → HasNothingOut s t × HasHeld s t pin.generation pin.ticket
+  two_more s pin t none got gone =
+      let a = got.entered in
+      let b = gone.entered in
+      let x = still s.caller s.place.me.0.mine (mine s.caller a.before) s.place.me.0.announced pin.place.me.0.announced none a.calls in
+      let y = still pin.caller pin.place.me.0.mine (mine pin.caller b.before) pin.place.me.0.announced gone.after.announced x.1 b.calls in
+      let z : (t.place.me.0.mine ≡ gone.after.mine) × (t.place.me.0.announced ≡ None) = ⊎_elim
+      (λ (e : t.place.me.0 ≡ gone.after). (ap (λ k. k.mine) e, ap (λ k. k.announced) e ∙ y.1))
+      (λ (f : HasFreed (plan_of_pin pin) pin.caller gone.after t.place.me.0 pin.generation). still pin.caller gone.after.mine t.place.me.0.mine gone.after.announced t.place.me.0.announced y.1 f.calls)
+      gone.ended in (
+        record {
+          pass = record { table = sym gone.same.table ∙ got.same.table; plan = sym gone.same.plan ∙ got.same.plan; caller = sym gone.same.caller ∙ got.same.caller };
+          none = z.1;
+        },
+        z.0 ∙ b.grown ∙ (λ i. (y.0 ∙ a.grown ∙ ap (λ l. l ++ Acquire s.caller pin.generation pin.ticket ∷ []) x.0) i ++ Release (got.same.caller i) pin.generation [] ∷ []),
+      )
 
   -- the last two of two passes
   pub pair : (r : Registrar D U W X L) (all xs ys : List (Pass D U W X L)) (two one : Pass D U W X L) → all ≡ xs ++ two ∷ [] → xs ≡ ys ++ one ∷ [] → AreDealt r all → length all ≡ 2 → IsNewPass r 1 one × IsNewPass r 2 two

@@ -16,7 +16,7 @@ fetch_add-word-requires g c =
       same,
       omega arith,
       acquires_current table.key table.table_id.slots pass.place.id pass.place.me (omega arith) (omega arith) pass.none_back (pass.told ∙ ap (λ t. Some t.shared.key) (sym c.deref.ensures))
-          (ap (λ d. pinned d pass.place.me.0.mine) pass.numbered ∙ pass.unpinned)
+          (ap (λ d. pinned d pass.place.me.0.mine) pass.numbered ∙ pass.unpinned) pass.idle
           (let a = c.if-self.false in let t = pass.tried in let b = pass.most ∙ ap (λ t. t.shared.key.budget) (sym c.deref.ensures) in omega arith),
     )
 
@@ -45,6 +45,7 @@ invariant_of-pass g c =
       within = (let a = c.if-self.false in omega arith);
       unpinned = k.pin ∙ pass.unpinned;
       empty_handed = k.hand;
+      idle = k.task_is ∙ pass.idle;
       none_back = k.back ∙ pass.none_back;
       bare = k.carried ∙ pass.bare;
     }
@@ -83,6 +84,7 @@ invariant_of-result g c =
       opened = slot.0;
       below = slot.1;
       empty_handed = k.hand;
+      idle = k.task_is ∙ pass.idle;
       none_back = k.back ∙ pass.none_back;
       bare = k.carried ∙ pass.bare;
     }

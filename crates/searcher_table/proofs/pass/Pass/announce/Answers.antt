@@ -61,6 +61,7 @@ invariant_of-self g c =
       within = pass.within;
       unpinned = ap (pinned pass.caller) own ∙ pass.unpinned;
       empty_handed = ap (λ m. m.0.hand) e.2;
+      idle = ap (λ m. m.0.task) e.2 ∙ ap (λ m. m.0.task) a.after ∙ pass.idle;
       none_back = ap (λ m. m.0.back) e.2 ∙ k.back ∙ pass.none_back;
       bare = ap (λ m. m.1) e.2 ∙ ap (λ m. m.1) a.after ∙ pass.bare;
     }

@@ -4,6 +4,9 @@ use Rattle.registry_machine.specs.Legal.{IsAllowed, state_of}
 use Rattle.searcher_table.specs.declared.board.Plan.{Plan}
 use Rattle.searcher_table.specs.declared.board.Hand.{Hand}
 use Rattle.searcher_table.proofs.Registering.{answered, entered_mirrors}
+use Rattle.registry_machine.specs.Machine.{after}
+use Rattle.searcher_table.specs.declared.board.Task.TheVariants.{Idle}
+use Rattle.searcher_table.proofs.Quiet.{same_openings}
 use Rattle.searcher_table.specs.Words.{limits}
 use Rattle.searcher_table.specs.Steps.{answer_of}
 use Rattle.searcher_table.specs.Registrars.{plan_of, seen_of, answer_to}
@@ -54,26 +57,26 @@ invariant_of-self g c =
     let e = c.join_seat.ensures in
     let x = answered registrar call c.join_seat.new.seat.me c.store.new.seat.me e.2 c.store.ensures.2 in
     let a = is_answer (plan_of registrar) (seen_of registrar) hand call.asked.call refl in
-    let m = entered_mirrors registrar call.place.me.0 c.store.new.seat.me (answer_to registrar call) x (a.still (state_of (limits (plan_of registrar)) x.log)) in
-    let k = x.knows in
+    let m = entered_mirrors registrar call.place.me.0 c.store.new.seat.me (answer_to registrar call) Idle c.join_seat.new.seat.me.0.fresh x (same_openings (state_of (limits (plan_of registrar)) x.log) (after (state_of (limits (plan_of registrar)) x.log) (answer_to registrar call)) (a.same (state_of (limits (plan_of registrar)) x.log))) in
     let id : c.store.new.seat.table_id ≡ registrar.place.table_id = c.store.ensures.0 ∙ e.0 in
     record {
       at_table = id ∙ registrar.at_table;
       sized = ap (λ z. z.words) id ∙ registrar.sized;
-      told = k.plan ∙ registrar.told;
-      role = k.registrar ∙ registrar.role;
+      told = x.plan ∙ registrar.told;
+      role = x.role ∙ registrar.role;
       counted = x.places a.placed;
       most = registrar.most;
       few = registrar.few;
       some = registrar.some;
+      few_callers = registrar.few_callers;
       last_is = m.last;
       warming_are = m.warming;
       spares = subst (λ z. AreAt z registrar.spare.items) (sym id) registrar.spares;
       enough = registrar.enough;
       within = registrar.within;
-      unused = m.unused;
-      empty_handed = k.hand;
-      bare = x.bare;
+      idle = x.task_is;
+      empty_handed = x.hand;
+      bare = ap (λ m. m.1) (c.store.ensures.2 hand (plan_of registrar) (ap (λ m. m.0.hand) e.2 ∙ call.in_hand) (ap (λ m. m.0.plan) e.2 ∙ registrar.told)).after ∙ ap (λ m. m.1) e.2 ∙ registrar.bare;
     }
 
 pub returns-clause-entry : goal.returns-clause-entry
@@ -85,9 +88,9 @@ returns-clause-entry g c =
     record {
       registrar = record { table = c.store.ensures.0 ∙ e.0; plan = refl };
       legal = x.legal;
-      back = x.knows.back;
+      back = x.back;
       before = x.log;
-      seen = x.seen;
+      seen = x.quiet;
       covers = x.covers;
-      entry = x.knows.seen;
+      entry = x.seen;
     }

@@ -1,13 +1,15 @@
-use Rattle.std.proofs.Common.{◌≡◌, ◌∙◌, sym, ap, subst, refl}
+use Rattle.std.proofs.Common.{◌≡◌, ◌-◌, ◌∙◌, sym, ap, subst}
 use Rattle.std.specs.Arc.{arc_value}
+use Rattle.std.specs.Prelude.{◌^◌}
 use Rattle.searcher_table.specs.Spares.{AreAt}
-use Rattle.searcher_table.proofs.Beginning.{opens, all_zero}
+use Rattle.searcher_table.proofs.Beginning.{opens_with}
 use Rattle.searcher_table.proofs.registrar.Registrar.first.Goals as goal
 
 pub new-requires : goal.new-requires
 new-requires g c =
     let r = c.requires in
-    opens c.args.plan.now _ c.in_ok-cells.cells.items record { callers = r.callers.1; warming = r.warming; generation = (r.first, r.last); budget = r.budget } refl (all_zero 1168)
+    opens_with c.args.plan.now _ _ c.in_ok-cells.cells.items record { callers = r.callers.1; warming = r.warming; generation = (r.first, r.last); budget = r.budget }
+    (c.ones.ensures ∙ ap (λ n. 2 ^ n - 1) c.min.ensures) (c.ones-2.ensures ∙ ap (λ n. 2 ^ n - 1) c.saturating_sub.ensures)
 
 pub invariant_of-result-clause-spares : goal.invariant_of-result-clause-spares
 invariant_of-result-clause-spares g c =

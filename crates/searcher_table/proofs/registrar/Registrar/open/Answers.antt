@@ -1,13 +1,13 @@
-use Rattle.std.proofs.Common.{◌≡◌, ◌+◌, ◌*◌, ◌<◌, ◌∙◌, [], ◌∷◌, ◌++◌, length, length-append, List, count_by, Some, refl, sym, ap, subst, arith}
+use Rattle.std.proofs.Common.{◌≡◌, ◌+◌, ◌*◌, ◌<◌, ◌∙◌, [], ◌∷◌, ◌++◌, length, length-append, List, count_by, Some, None, refl, sym, ap, subst, arith}
 use Rattle.std.specs.List.{AllByRecursion}
 use Rattle.registry_machine.specs.declared.entry.Entry.{Entry}
 use Rattle.registry_machine.specs.declared.entry.Entry.TheVariants.{Open}
 use Rattle.registry_machine.specs.Entries.{has_place}
-use Rattle.registry_machine.specs.Legal.{Legal}
+use Rattle.registry_machine.specs.Legal.{Legal, state_of}
 use Rattle.searcher_table.specs.declared.board.Plan.{Plan}
 use Rattle.searcher_table.specs.declared.board.Hand.{Hand}
 use Rattle.searcher_table.specs.Words.{last_generation, limits}
-use Rattle.searcher_table.specs.Warming.{listed, last_in, warming_in, AreUnused}
+use Rattle.searcher_table.specs.Warming.{listed, last_in, warming_in}
 use Rattle.searcher_table.specs.Registrars.{plan_of, seen_of}
 use Rattle.searcher_table.proofs.Frame.{all_map, all_last}
 use Rattle.std.specs.Prelude.{slice_get}
@@ -17,20 +17,32 @@ use Rattle.searcher_table.proofs.Gather.{joins}
 use Rattle.searcher_table.proofs.HandOut.{splits}
 use Rattle.searcher_table.proofs.Open.{opens_next}
 use Rattle.searcher_table.proofs.Registering.{opened, opened_mirrors}
+use Rattle.searcher_table.proofs.Quiet.{quiet_since}
+use Rattle.searcher_table.specs.declared.board.Task.TheVariants.{Idle, Cleared}
+use Rattle.searcher_table.proofs.Preparing.{goes_on}
 use Rattle.searcher_table.proofs.registrar.Registrar.open.Goals as goal
+
+pub claim-slot-requires-clause-opener : goal.claim-slot-requires-clause-opener
+claim-slot-requires-clause-opener g c =
+    let registrar = c.args.self.now in
+    record { plan = registrar.told; role = registrar.role; task = registrar.idle }
+
+pub claim-slot-requires-clause-room : goal.claim-slot-requires-clause-room
+claim-slot-requires-clause-room g c = c.requires.may.room
 
 pub join_seat-requires : goal.join_seat-requires
 join_seat-requires g c =
     let registrar = c.args.self.now in
     let call = c.args.call in
     let table = c.deref.result.now.shared in
+    let f = c.claim-slot.ensures in
     let same : registrar.place.table_id ≡ table.table_id = registrar.at_table ∙ sym (ap (λ t. t.shared.table_id) c.deref.ensures) in
     let words : table.table_id.words ≡ 1168 = ap (λ z. z.words) (sym same) ∙ registrar.sized in (
-      same,
+      f.table ∙ same,
       c.requires.call.table ∙ same,
       call.bare,
       omega arith,
-      joins table.key registrar.place.id registrar.place.me.0 call.place.id call.place.me.0,
+      joins table.key c.claim-slot.new.place.id c.claim-slot.new.place.me.0 call.place.id call.place.me.0,
     )
 
 pub compare_exchange_with-requires : goal.compare_exchange_with-requires
@@ -38,22 +50,30 @@ compare_exchange_with-requires g c =
     let registrar = c.args.self.now in
     let call = c.args.call in
     let table = c.deref.result.now.shared in
+    let f = c.claim-slot.ensures in
+    let k = c.claim-slot.new.place.me.0 in
+    let slot = c.claim-slot.result in
     let same : registrar.place.table_id ≡ table.table_id = registrar.at_table ∙ sym (ap (λ t. t.shared.table_id) c.deref.ensures) in
     let words : table.table_id.words ≡ 1168 = ap (λ z. z.words) (sym same) ∙ registrar.sized in
     let hand : Hand g.row.U.Denot = record { caller = call.caller; asked = call.asked } in
     let e = c.join_seat.ensures in
     let me = c.join_seat.new.seat.me in
     let kp : plan_of registrar ≡ table.key = sym (ap (λ t. t.shared.key) c.deref.ensures) in
-    let sp : seen_of registrar ≡ me.0.seen = sym (ap (λ m. m.0.seen) e.2) in
+    let sp : k.seen ≡ me.0.seen = sym (ap (λ m. m.0.seen) e.2) in
+    let quiet = quiet_since (limits (plan_of registrar)) k.seen (seen_of registrar) f.begun.seen in
     let may = c.requires.may in
     let few = call.ranged in (
-      e.0 ∙ same,
+      e.0 ∙ f.table ∙ same,
       omega arith,
-      opens_next table.key g.D.Shown.docs table.table_id.slots c.join_seat.new.seat.id me (640 + 8 * call.caller) hand c.in-Some.door
-          refl call.ranged.0 call.ranged.1 (ap (λ m. m.0.hand) e.2 ∙ call.in_hand) (ap (λ m. m.0.registrar) e.2 ∙ registrar.role) (ap (λ m. m.0.plan) e.2 ∙ registrar.told ∙ ap (λ p. Some p) kp) c.requires.call.call
-          (subst (λ (z : Plan g.row.D-Setting.Denot × List (Entry g.row.U.Denot g.row.D-Docs.Denot g.row.D-Deed.Denot)). length (warming_in z.0 z.1) < z.0.max_warming) (λ i. (kp i, sp i)) may.room)
-          (subst (λ (z : Plan g.row.D-Setting.Denot × List (Entry g.row.U.Denot g.row.D-Docs.Denot g.row.D-Deed.Denot)). last_in z.0 z.1 < last_generation) (λ i. (kp i, sp i)) may.left)
-          (subst (λ (z : Plan g.row.D-Setting.Denot × List (Entry g.row.U.Denot g.row.D-Docs.Denot g.row.D-Deed.Denot)). AreUnused z.0 z.1) (λ i. (kp i, sp i)) registrar.unused),
+      opens_next table.key g.D.Shown.docs table.table_id.slots c.join_seat.new.seat.id me (640 + 8 * call.caller) hand slot c.in-Some.door
+          refl call.ranged.0 call.ranged.1 (ap (λ m. m.0.hand) e.2 ∙ call.in_hand) (ap (λ m. m.0.registrar) e.2 ∙ f.begun.opener.role) (ap (λ m. m.0.plan) e.2 ∙ f.begun.opener.plan ∙ ap (λ p. Some p) kp) c.requires.call.call
+          (ap (λ m. m.0.task) e.2 ∙ f.begun.opener.task)
+          (subst (λ (z : Plan g.row.D-Setting.Denot). slot < (limits z).slots) kp f.free.below)
+          (subst (λ (z : Plan g.row.D-Setting.Denot × List (Entry g.row.U.Denot g.row.D-Docs.Denot g.row.D-Deed.Denot)). (state_of (limits z.0) z.1).slots slot ≡ None) (λ i. (kp i, sp i)) f.free.none)
+          (subst (λ (z : Plan g.row.D-Setting.Denot × List (Entry g.row.U.Denot g.row.D-Docs.Denot g.row.D-Deed.Denot)). length (warming_in z.0 z.1) < z.0.max_warming) (λ i. (kp i, sp i))
+          (subst (λ gs. length gs < (plan_of registrar).max_warming) (sym quiet.warming) may.room))
+          (subst (λ (z : Plan g.row.D-Setting.Denot × List (Entry g.row.U.Denot g.row.D-Docs.Denot g.row.D-Deed.Denot)). last_in z.0 z.1 < last_generation) (λ i. (kp i, sp i))
+          (subst (λ n. n < last_generation) (sym quiet.last) may.left)),
     )
 
 pub split_seat-seat-requires : goal.split_seat-seat-requires
@@ -62,7 +82,7 @@ split_seat-seat-requires g c =
     let table = c.deref.result.now.shared in
     let same : registrar.place.table_id ≡ table.table_id = registrar.at_table ∙ sym (ap (λ t. t.shared.table_id) c.deref.ensures) in
     let words : table.table_id.words ≡ 1168 = ap (λ z. z.words) (sym same) ∙ registrar.sized in (
-      c.compare_exchange_with.ensures.0 ∙ c.join_seat.ensures.0 ∙ same,
+      c.compare_exchange_with.ensures.0 ∙ c.join_seat.ensures.0 ∙ c.claim-slot.ensures.table ∙ same,
       omega arith,
       splits table.key c.compare_exchange_with.new.seat.id c.compare_exchange_with.new.seat.me.0,
     )
@@ -71,22 +91,25 @@ pub invariant_of-self : goal.invariant_of-self
 invariant_of-self g c =
     let registrar = c.args.self.now in
     let call = c.args.call in
+    let f = c.claim-slot.ensures in
+    let slot = c.claim-slot.result in
     let e = c.join_seat.ensures in
     let new = c.compare_exchange_with.new.seat.me in
-    let x = opened (g.D.Shown.docs c.in-Some.door) registrar call c.join_seat.new.seat.me new e.2 (λ h p has told. c.compare_exchange_with.ensures.2 h p c.in-Some.door has told refl) in
-    let k = x.knows in
+    let shown = g.D.Shown.docs c.in-Some.door in
+    let x = opened shown registrar call c.claim-slot.new.place.me.0 slot c.join_seat.new.seat.me new (goes_on registrar c.claim-slot.new.place.me.0 (Cleared slot) f.begun) (ap (λ m. m.0) e.2) f.begun.opener.task (λ h p b has told clear. c.compare_exchange_with.ensures.2 h p b c.in-Some.door has told clear refl) in
     let e2 = c.split_seat-seat.ensures in
-    let id : c.split_seat-seat.new.seat.table_id ≡ registrar.place.table_id = e2.0 ∙ c.compare_exchange_with.ensures.0 ∙ e.0 in
-    let m = opened_mirrors registrar call.place.me.0 new (record { caller = call.caller; asked = call.asked }) (g.D.Shown.docs c.in-Some.door) x in
+    let id : c.split_seat-seat.new.seat.table_id ≡ registrar.place.table_id = e2.0 ∙ c.compare_exchange_with.ensures.0 ∙ e.0 ∙ f.table in
+    let m = opened_mirrors registrar call.place.me.0 new (record { caller = call.caller; asked = call.asked }) slot shown Idle (Some (record { generation = last_in (plan_of registrar) (seen_of registrar) + 1; slot = slot })) x in
     record {
       at_table = id ∙ registrar.at_table;
       sized = ap (λ z. z.words) id ∙ registrar.sized;
-      told = ap (λ m. m.0.plan) e2.2 ∙ k.plan ∙ registrar.told;
-      role = ap (λ m. m.0.registrar) e2.2 ∙ k.registrar ∙ registrar.role;
+      told = ap (λ m. m.0.plan) e2.2 ∙ x.plan ∙ registrar.told;
+      role = ap (λ m. m.0.registrar) e2.2 ∙ x.role ∙ registrar.role;
       counted = x.places refl ∙ ap (λ m. count_by has_place m.0.seen) (sym e2.2);
       most = registrar.most;
       few = registrar.few;
       some = registrar.some;
+      few_callers = registrar.few_callers;
       last_is = m.last ∙ ap (λ z. last_in (plan_of registrar) z.0.seen) (sym e2.2);
       warming_are = c.add.ensures ∙ m.warming ∙ ap (λ z. warming_in (plan_of registrar) z.0.seen) (sym e2.2);
       spares = subst (λ z. AreAt z c.pop-2.new.self.items) (sym id) (λ i l at. registrar.spares i l (ap (λ ls. slice_get ls i) c.in-Some-pop.ensures.items ∙ got_before c.pop-2.new.self.items (c.in-Some-pop.link ∷ []) i l at));
@@ -98,25 +121,29 @@ invariant_of-self g c =
           let k = registrar.enough in
           omega arith;
       within = (let l = c.requires.may.left in let i = registrar.last_is in omega arith);
-      unused = subst (λ z. AreUnused (plan_of registrar) z.0.seen) (sym e2.2) m.unused;
+      idle = ap (λ m. m.0.task) e2.2 ∙ x.task_is;
       empty_handed = ap (λ m. m.0.hand) e2.2;
-      bare = ap (λ m. m.1) e2.2 ∙ x.bare;
+      bare = ap (λ m. m.1) e2.2 ∙ ap (λ m. m.1) (c.compare_exchange_with.ensures.2 (record { caller = call.caller; asked = call.asked }) (plan_of registrar) slot c.in-Some.door (ap (λ m. m.0.hand) e.2 ∙ call.in_hand) (ap (λ m. m.0.plan) e.2 ∙ f.begun.opener.plan) (ap (λ m. m.0.task) e.2 ∙ f.begun.opener.task) refl).after ∙ ap (λ m. m.1) e.2 ∙ f.id ∙ registrar.bare;
     }
 
 pub invariant_of-result : goal.invariant_of-result
 invariant_of-result g c =
     let registrar = c.args.self.now in
     let call = c.args.call in
+    let f = c.claim-slot.ensures in
+    let slot = c.claim-slot.result in
     let e = c.join_seat.ensures in
     let new = c.compare_exchange_with.new.seat.me in
-    let x = opened (g.D.Shown.docs c.in-Some.door) registrar call c.join_seat.new.seat.me new e.2 (λ h p has told. c.compare_exchange_with.ensures.2 h p c.in-Some.door has told refl) in
-    let k = x.knows in
+    let shown = g.D.Shown.docs c.in-Some.door in
+    let x = opened shown registrar call c.claim-slot.new.place.me.0 slot c.join_seat.new.seat.me new (goes_on registrar c.claim-slot.new.place.me.0 (Cleared slot) f.begun) (ap (λ m. m.0) e.2) f.begun.opener.task (λ h p b has told clear. c.compare_exchange_with.ensures.2 h p b c.in-Some.door has told clear refl) in
     let e2 = c.split_seat-seat.ensures in
-    let id : c.split_seat-seat.new.seat.table_id ≡ registrar.place.table_id = e2.0 ∙ c.compare_exchange_with.ensures.0 ∙ e.0 in
+    let at : c.split_seat-seat.result.table_id ≡ registrar.place.table_id = e2.3 ∙ c.compare_exchange_with.ensures.0 ∙ e.0 ∙ f.table in
     record {
-      at_table = e2.3 ∙ c.compare_exchange_with.ensures.0 ∙ e.0 ∙ sym (registrar.spares (length c.pop-2.new.self.items) c.in-Some-pop.link (ap (λ ls. slice_get ls (length c.pop-2.new.self.items)) c.in-Some-pop.ensures.items ∙ got_here c.pop-2.new.self.items c.in-Some-pop.link));
-      sized = ap (λ z. z.words) (e2.3 ∙ c.compare_exchange_with.ensures.0 ∙ e.0) ∙ registrar.sized;
-      empty_handed = ap (λ m. m.0.hand) e2.4 ∙ k.hand;
+      at_table = at ∙ sym (registrar.spares (length c.pop-2.new.self.items) c.in-Some-pop.link (ap (λ ls. slice_get ls (length c.pop-2.new.self.items)) c.in-Some-pop.ensures.items ∙ got_here c.pop-2.new.self.items c.in-Some-pop.link));
+      sized = ap (λ z. z.words) at ∙ registrar.sized;
+      warming = ap (λ m. m.0.fresh) e2.4 ∙ x.fresh_is ∙ ap (λ n. Some (record { generation = n + 1; slot = slot })) (sym registrar.last_is);
+      below = (let b = f.free.below in let n = registrar.few_callers in let m = registrar.most in let k = registrar.few in omega arith);
+      empty_handed = ap (λ m. m.0.hand) e2.4 ∙ x.hand;
       bare = ap (λ m. m.1) e2.4;
     }
 
@@ -124,26 +151,27 @@ pub returns : goal.returns
 returns g c =
     let registrar = c.args.self.now in
     let call = c.args.call in
+    let f = c.claim-slot.ensures in
+    let slot = c.claim-slot.result in
     let e = c.join_seat.ensures in
     let new = c.compare_exchange_with.new.seat.me in
-    let x = opened (g.D.Shown.docs c.in-Some.door) registrar call c.join_seat.new.seat.me new e.2 (λ h p has told. c.compare_exchange_with.ensures.2 h p c.in-Some.door has told refl) in
-    let k = x.knows in
-    let e2 = c.split_seat-seat.ensures in
-    let id : c.split_seat-seat.new.seat.table_id ≡ registrar.place.table_id = e2.0 ∙ c.compare_exchange_with.ensures.0 ∙ e.0 in
-    let rest = c.pop.new.self.items in
     let shown = g.D.Shown.docs c.in-Some.door in
+    let x = opened shown registrar call c.claim-slot.new.place.me.0 slot c.join_seat.new.seat.me new (goes_on registrar c.claim-slot.new.place.me.0 (Cleared slot) f.begun) (ap (λ m. m.0) e.2) f.begun.opener.task (λ h p b has told clear. c.compare_exchange_with.ensures.2 h p b c.in-Some.door has told clear refl) in
+    let e2 = c.split_seat-seat.ensures in
+    let id : c.split_seat-seat.new.seat.table_id ≡ registrar.place.table_id = e2.0 ∙ c.compare_exchange_with.ensures.0 ∙ e.0 ∙ f.table in
+    let rest = c.pop.new.self.items in
     record {
-      slot = length (warming_in (plan_of registrar) (seen_of registrar));
+      slot = slot;
       shown = shown;
       entry = record {
         registrar = record { table = id; plan = refl };
         legal = subst (λ z. Legal (limits (plan_of registrar)) z.0.seen) (sym e2.2) x.legal;
-        back = ap (λ m. m.0.back) e2.2 ∙ k.back;
+        back = ap (λ m. m.0.back) e2.2 ∙ x.back;
         before = x.log;
-        seen = x.seen;
+        seen = x.quiet;
         covers = x.covers;
-        entry = ap (λ m. m.0.seen) e2.2 ∙ k.seen
-            ∙ (λ i. x.log ++ Open call.caller call.asked.content (sym registrar.last_is i + 1) (length (warming_in (plan_of registrar) (seen_of registrar))) shown ∷ []);
+        entry = ap (λ m. m.0.seen) e2.2 ∙ x.seen
+            ∙ (λ i. x.log ++ Open call.caller call.asked.content (sym registrar.last_is i + 1) slot shown ∷ []);
       };
       doors_show =
           let same = c.requires.doors.same in

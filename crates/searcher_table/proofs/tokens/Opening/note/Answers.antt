@@ -1,5 +1,5 @@
 use Rattle.std.proofs.Common.{◌≡◌, ◌∙◌, sym, ap, arith}
-use Rattle.searcher_table.proofs.HandOut.{splits}
+use Rattle.searcher_table.proofs.HandOut.{tells_on}
 use Rattle.searcher_table.proofs.tokens.Opening.note.Goals as goal
 
 pub split_seat-place-requires : goal.split_seat-place-requires
@@ -10,5 +10,5 @@ split_seat-place-requires g c =
     let words : table.table_id.words ≡ 1168 = ap (λ z. z.words) (sym same) ∙ opening.sized in (
       same,
       omega arith,
-      splits table.key opening.seat.id opening.seat.me.0,
+      tells_on table.key opening.seat.id opening.seat.me.0,
     )
