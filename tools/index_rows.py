@@ -1,32 +1,11 @@
 #!/usr/bin/env python3
 """Writes `stdin` and `stdout` of crates/index_rows: tables settled by hand, and drawn rows answered by `search_rules`."""
-import json
 import random
-from pathlib import Path
 
 import search_rules as rules
+from transcript import Transcript, compact
 
-ROOM = Path(__file__).resolve().parent.parent / "crates" / "index_rows"
-asked, told = [], []
-
-
-def step(text):
-    asked.append(text)
-    told.append(text)
-
-
-def ask(text, answer):
-    asked.append(text)
-    told.append(f"{text} =>{answer}")
-
-
-def title(text):
-    step("")
-    step(f"# {text}")
-
-
-def compact(doc):
-    return json.dumps(doc, separators=(",", ":"), ensure_ascii=False)
+table = Transcript("index_rows")
 
 
 def listed(ids):
@@ -38,7 +17,7 @@ def counted(ids):
 
 
 def find(verb, text, ids):
-    ask(f"{verb} {text}".rstrip(), counted(ids))
+    table.ask(f"{verb} {text}".rstrip(), counted(ids))
 
 
 def sort_text(sort):
@@ -46,17 +25,17 @@ def sort_text(sort):
 
 
 def ask_first(count, left_out, sort, numbered):
-    ask(f"first {count} {left_out} {sort_text(sort)}".rstrip(), listed(f"{number}:{one}" for number, one in numbered))
+    table.ask(f"first {count} {left_out} {sort_text(sort)}".rstrip(), listed(f"{number}:{one}" for number, one in numbered))
 
 
 def size(live, below, held):
-    ask("size", f" {live} live below {below} in segments of{listed(held)}")
+    table.ask("size", f" {live} live below {below} in segments of{listed(held)}")
 
 
 def segment(lines):
     for line in lines.splitlines():
-        step(f"doc {line}")
-    step("segment")
+        table.step(f"doc {line}")
+    table.step("segment")
 
 
 # ---- A view of two segments, one of whose documents a newer one replaces, by hand.
@@ -81,45 +60,45 @@ POSTINGS = [
 
 def ask_postings(numbers):
     for key, docs, terms in POSTINGS:
-        ask(f"postings {key}", "".join(f" {numbers[one]}:{one}{places};" for one, places in docs))
-        ask(f"terms {key}", listed(terms.split()))
+        table.ask(f"postings {key}", "".join(f" {numbers[one]}:{one}{places};" for one, places in docs))
+        table.ask(f"terms {key}", listed(terms.split()))
 
 
 def views():
-    title("A view of two segments: a newer document replaces an older one.")
-    step("view")
+    table.title("A view of two segments: a newer document replaces an older one.")
+    table.step("view")
     segment(OLDER)
-    step("gone 1")
+    table.step("gone 1")
     segment(NEWER)
     size(3, 4, [2, 2])
-    ask("live cat", " 0:a=x 2:c=x 3:b=y")
+    table.ask("live cat", " 0:a=x 2:c=x 3:b=y")
     ask_postings({"a": 0, "c": 2, "b": 3})
-    title("The same documents in one segment.")
-    step("merge 0")
+    table.title("The same documents in one segment.")
+    table.step("merge 0")
     size(3, 3, [3])
-    ask("live cat", " 0:a=x 1:c=x 2:b=y")
+    table.ask("live cat", " 0:a=x 1:c=x 2:b=y")
     ask_postings({"a": 0, "c": 1, "b": 2})
-    title("A merge drops what is deleted, and a segment of nothing else.")
-    step("view")
+    table.title("A merge drops what is deleted, and a segment of nothing else.")
+    table.step("view")
     segment('{"id":"a"}\n{"id":"b"}')
-    step("gone 1")
+    table.step("gone 1")
     segment('{"id":"c"}\n{"id":"d"}')
     size(3, 4, [2, 2])
-    ask("live id", " 0:a=a 2:c=c 3:d=d")
+    table.ask("live id", " 0:a=a 2:c=c 3:d=d")
     find("or", "*:*", ["a", "c", "d"])
-    step("merge 0")
+    table.step("merge 0")
     size(3, 3, [3])
-    ask("live id", " 0:a=a 1:c=c 2:d=d")
+    table.ask("live id", " 0:a=a 1:c=c 2:d=d")
     find("or", "*:*", ["a", "c", "d"])
-    step("view")
+    table.step("view")
     segment('{"id":"a"}\n{"id":"b"}')
     segment('{"id":"c"}\n{"id":"d"}')
     for number in range(4):
-        step(f"gone {number}")
-    step("segment")
+        table.step(f"gone {number}")
+    table.step("segment")
     size(0, 4, [2, 2])
     find("or", "*:*", [])
-    step("merge 0")
+    table.step("merge 0")
     size(0, 0, [])
     find("or", "*:*", [])
 
@@ -170,17 +149,17 @@ WINDOWS = [
 
 def sorts():
     names = {"i": "id", "c": "cat", "p": "price", "o": "ok", "x": "_docid_"}
-    title("The first documents of a sort: missing values first, ties in the order of the index.")
-    step("view")
+    table.title("The first documents of a sort: missing values first, ties in the order of the index.")
+    table.step("view")
     segment(SORTED_OLDER)
-    step("gone 0")
+    table.step("gone 0")
     segment(SORTED_NEWER)
     for letters, count, left_out, ids in SORTS:
         sort = [(names[x.lower()], "desc" if x.isupper() else "asc") for x in letters]
         ask_first(count, left_out, sort, [("zabcd".index(one), one) for one in ids])
-    title("How many documents a result keeps.")
+    table.title("How many documents a result keeps.")
     for start, rows, window, kept in WINDOWS:
-        ask(f"window {start} {rows} {window}", f" {kept}")
+        table.ask(f"window {start} {rows} {window}", f" {kept}")
 
 
 # ---- Queries over views of three segments, by hand. Documents behind `-` go with the next segment.
@@ -325,19 +304,19 @@ O«t:(red AND (apple -green))» => a d e"""
 
 
 def query_view(segments):
-    step("view")
+    table.step("view")
     number, gone = 0, []
     for lines in segments:
         for one in gone:
-            step(f"gone {one}")
+            table.step(f"gone {one}")
         gone = []
         for line in lines.splitlines():
             mark, body = line.split(" ", 1)
             if mark == "-":
                 gone.append(number)
             number += 1
-            step(f"doc {body}")
-        step("segment")
+            table.step(f"doc {body}")
+        table.step("segment")
 
 
 def query_rows(rows):
@@ -348,14 +327,14 @@ def query_rows(rows):
 
 
 def queries():
-    title("Queries over three segments, two of whose documents are deleted.")
+    table.title("Queries over three segments, two of whose documents are deleted.")
     query_view(FRUIT)
     size(4, 6, [3, 2, 1])
     query_rows(FRUIT_ROWS)
-    title("How often a query asks for postings or terms.")
-    ask("asks cat:x", " 1")
-    ask("asks *:*", " 0")
-    title("More queries over three segments, three of whose documents are deleted.")
+    table.title("How often a query asks for postings or terms.")
+    table.ask("asks cat:x", " 1")
+    table.ask("asks *:*", " 0")
+    table.title("More queries over three segments, three of whose documents are deleted.")
     query_view(SHOP)
     size(7, 10, [3, 4, 3])
     query_rows(SHOP_ROWS)
@@ -395,28 +374,28 @@ SEARCHES = [
 
 
 def run(steps):
-    step("index")
+    table.step("index")
     for one in steps.split():
         if "=" in one:
             key, cat = one.split("=")
-            step("add " + compact({"id": key, "cat": cat}))
+            table.step("add " + compact({"id": key, "cat": cat}))
         elif one[0] == "-":
-            step(f"delete {one[1:]}")
+            table.step(f"delete {one[1:]}")
         elif one[0] == "?":
-            step(f"delete_query cat:{one[1:]}")
+            table.step(f"delete_query cat:{one[1:]}")
         else:
-            step("commit")
+            table.step("commit")
 
 
 def searchers():
-    title("What a searcher sees is what stood as it was opened.")
+    table.title("What a searcher sees is what stood as it was opened.")
     for steps, seen in RUNS:
         run(steps)
-        ask("page 0 100 | *:*", f" {len(seen.split())}:{listed(seen.split())}")
-    title("A search gives a page, and how many it found.")
+        table.ask("page 0 100 | *:*", f" {len(seen.split())}:{listed(seen.split())}")
+    table.title("A search gives a page, and how many it found.")
     run("a=x b=y | c=x d=x |")
     for start, rows, text, count, page in SEARCHES:
-        ask(f"page {start} {rows} | {text}", f" {count}:{listed(page.split())}")
+        table.ask(f"page {start} {rows} | {text}", f" {count}:{listed(page.split())}")
 
 
 # ---- Drawn rows.
@@ -550,7 +529,7 @@ def ask_view(draws, view, count):
     for number, doc in live:
         own = rules.values(doc, field)
         told_docs.append(f" {number}:{doc['id']}" + (f"={key_text(own[0])}" if own else ""))
-    ask(f"live {field}", "".join(told_docs))
+    table.ask(f"live {field}", "".join(told_docs))
     for _ in range(count):
         query = drawn_telling(draws, 3, view.found)
         find("or", query_text(query), view.found(query))
@@ -560,7 +539,7 @@ def ask_view(draws, view, count):
         rows = "".join(
             f" {number}:{one}{''.join(f' {v}.{at}' for v, at in places)};" for number, one, places in view.postings(field, key)
         )
-        ask(f"postings {query_text(('term', field, key))}", rows)
+        table.ask(f"postings {query_text(('term', field, key))}", rows)
         left_out, wanted, sort = draws.randrange(0, 30), draws.randrange(0, 20), drawn_sort(draws)
         first = [pair for pair in rules.in_order(live, sort) if pair[0] != left_out]
         ask_first(wanted, left_out, sort, [(number, doc["id"]) for number, doc in first[:wanted]])
@@ -569,19 +548,19 @@ def ask_view(draws, view, count):
 def drawn_views():
     draws = random.Random(5)
     view = rules.View()
-    title("Drawn documents in five segments, some deleted, and drawn queries.")
-    step("view")
+    table.title("Drawn documents in five segments, some deleted, and drawn queries.")
+    table.step("view")
     for part in range(5):
         gone = sorted(draws.sample(range(6 * part), min(3, 6 * part)))
         docs = [drawn_doc(draws, f"d{6 * part + at}") for at in range(6)]
         for number in gone:
-            step(f"gone {number}")
+            table.step(f"gone {number}")
         segment("\n".join(map(compact, docs)))
         view.extend(docs, gone)
     ask_view(draws, view, 40)
     for at in (1, 2, 0, 0):
-        title(f"Segments {at} and {at + 1} are one.")
-        step(f"merge {at}")
+        table.title(f"Segments {at} and {at + 1} are one.")
+        table.step(f"merge {at}")
         view.merge(at)
         ask_view(draws, view, 8)
 
@@ -593,30 +572,30 @@ def ask_page(draws, index):
     hits = index.hits(query, filters, sort)
     page = [doc["id"] + (f"={doc['cat']}" if "cat" in doc else "") for doc in hits[start : start + rows]]
     texts = " | ".join(map(query_text, [query, *filters]))
-    ask(" ".join(filter(None, [f"page {start} {rows}", sort_text(sort), "|", texts])), f" {len(hits)}:{listed(page)}")
+    table.ask(" ".join(filter(None, [f"page {start} {rows}", sort_text(sort), "|", texts])), f" {len(hits)}:{listed(page)}")
 
 
 def drawn_searchers():
     draws = random.Random(7)
     index = rules.Index()
-    title("Drawn updates, openings and searches.")
-    step("index")
+    table.title("Drawn updates, openings and searches.")
+    table.step("index")
     for turn in range(220):
         key = f"d{draws.randrange(14)}"
         kind = draws.choice(["add", "add", "add", "add", "delete", "query", "commit", "page", "page", "page"])
         if kind == "add":
             doc = drawn_doc(draws, key)
-            step("add " + compact(doc))
+            table.step("add " + compact(doc))
             index.add(doc)
         elif kind == "delete":
-            step(f"delete {key}")
+            table.step(f"delete {key}")
             index.delete(key)
         elif kind == "query":
             query = ("bool", [("term", "cat", draws.choice(CATS)), drawn_leaf(draws)], [], [])
-            step("delete_query " + query_text(query))
+            table.step("delete_query " + query_text(query))
             index.delete_query(query)
         elif kind == "commit":
-            step("commit")
+            table.step("commit")
             index.commit()
         else:
             ask_page(draws, index)
@@ -625,11 +604,10 @@ def drawn_searchers():
 
 
 def main():
-    step(compact(rules.schema()))
+    table.step(compact(rules.schema()))
     for part in (views, sorts, queries, searchers, drawn_views, drawn_searchers):
         part()
-    (ROOM / "stdin").write_text("".join(f"{row}\n" for row in asked), encoding="utf-8")
-    (ROOM / "stdout").write_text("".join(f"{row}\n" for row in told), encoding="utf-8")
+    table.write()
 
 
 main()

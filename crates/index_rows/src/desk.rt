@@ -1,8 +1,6 @@
 //! The rows, each by its first word.
-use crate::asking;
 use crate::growing::Growing;
-use crate::reading;
-use crate::serving;
+use crate::{asking, reading, serving};
 use doc_model::Doc;
 use doc_sets::DocSet;
 use field_schema::{FieldNo, Key, Schema};

@@ -66,12 +66,7 @@ impl Growing {
     }
 }
 
-fn extended(
-    alloc: Global,
-    view: &View,
-    next: Vec<Arc<Doc>>,
-    gone: &DocSet,
-) -> Result<View, Fail> {
+fn extended(alloc: Global, view: &View, next: Vec<Arc<Doc>>, gone: &DocSet) -> Result<View, Fail> {
     if next.len() <= 1000 && view.size() <= 1000 {
         Ok(view.extend(alloc, next, gone)?)
     } else {

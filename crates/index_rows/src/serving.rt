@@ -68,15 +68,13 @@ pub(crate) fn tell_page(
 }
 
 // Adds a document's unique key, and its category where it has one.
-fn tell_doc(
-    alloc: Global,
-    schema: &Schema,
-    doc: &Doc,
-    told: &mut String,
-) -> Result<(), Fail> {
+fn tell_doc(alloc: Global, schema: &Schema, doc: &Doc, told: &mut String) -> Result<(), Fail> {
     told.push_str(" ")?;
     told.push_str(doc.id().get())?;
-    if let Some(category) = doc.values(schema.field("cat").ok_or("no category")?).first() {
+    if let Some(category) = doc
+        .values(schema.field("cat").ok_or("no category")?)
+        .first()
+    {
         told.push_str("=")?;
         reading::tell_key(alloc, category, told)?;
     }
