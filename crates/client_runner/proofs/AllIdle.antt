@@ -31,6 +31,9 @@ idle_row c q = record {
   code = code_of no_memory;
   found = found_of no_memory;
   docs = docs_of no_memory;
+  result = None;
+  filters = [];
+  doc_hits = 0;
 }
 
 abbrev idle_telling : Config → Call → Telling

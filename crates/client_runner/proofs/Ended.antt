@@ -10,17 +10,18 @@ use Rattle.script_form.specs.declared.script.Line.{Line}
 use Rattle.run_laws.specs.Rows.{RequestRow, Output}
 use Rattle.run_laws.specs.Calls.{Call, Told, calls_of, tell}
 use Rattle.run_laws.specs.Lawful.{Ascends, Lawful, call_here, told_here, is_acquired_first}
+use Rattle.run_laws.specs.Notes.{TellNotes, TellsNotes}
 use Rattle.run_history.specs.Tellings.{Telling, Life}
 use Rattle.search_model.specs.Live.{nothing}
 use Rattle.run_history.specs.Agreement.{Agrees, OutputAgrees, ComesBefore}
 use Rattle.run_history.specs.Serial.{first_life, start_entries}
-use Rattle.run_history.proofs.Elements.{all_unmap}
+use Rattle.run_history.proofs.Elements.{all_map, all_unmap}
 use Rattle.run_history.proofs.Ordering.{calls_ascend}
 use Rattle.run_history.proofs.Starts.{permuted}
 use Rattle.run_history.proofs.Laws.{lawful}
 use Rattle.client_runner.specs.Histories.{Event, reading, limits, GoesByHistory}
 use Rattle.client_runner.specs.Standings.{Standing, first, searchers_of}
-use Rattle.client_runner.specs.Runs.{Runs, Goes, Follows, IsOfItsCall}
+use Rattle.client_runner.specs.Runs.{Runs, Goes, Follows, IsOfItsCall, TellsItsNotes}
 use Rattle.client_runner.proofs.Follows.{runs_first}
 use Rattle.client_runner.proofs.Rising.{IsRising, sorted_is_risen, moved_back}
 
@@ -82,7 +83,7 @@ sorted_under n m xs ys same up = unmapped m ys (subst (IsNonDecreasingBy (λ k. 
 -- the run is over: its rows were sorted by line
 pub goes_by : (c : Config) (script : List Line) (h : List Event) (ts : List Telling) (lives : List Life) (st : Standing) (o : Output)
     → Runs c h ts lives st → Ascends (map (λ l. l.number) script) → IsPermutation (calls_of script) (map (λ t. t.told.call) ts)
-    → IsPermutation st.rows o.requests → IsNonDecreasingBy (λ r. r.line) o.requests → o.searchers ≡ searchers_of st → GoesByHistory c script o
+    → IsPermutation st.rows o.requests → IsNonDecreasingBy (λ r. r.line) o.requests → o.searchers ≡ searchers_of st → GoesByHistory c script o × TellNotes c script o
 goes_by c script h ts lives st o runs numbers served moved sorted searchers =
     let back = moved_back (λ (t : Telling). t.told.row) ts o.requests (subst (λ rows. IsPermutation rows o.requests) (sym runs.rows) moved) in
     let us = back.0 in
@@ -90,7 +91,10 @@ goes_by c script h ts lives st o runs numbers served moved sorted searchers =
     let calls_moved : IsPermutation (calls_of script) (map (λ (t : Telling). t.told.call) us) = IsPermutation-trans (calls_of script) (map (λ (t : Telling). t.told.call) ts) (map (λ (t : Telling). t.told.call) us) served (IsPermutation-map (λ (t : Telling). t.told.call) ts us back.1) in
     let up : IsNonDecreasingBy (λ (q : Call). q.line) (map (λ (t : Telling). t.told.call) us) = sorted_under (λ (r : RequestRow). r.line) (λ (q : Call). q.line) (map (λ (t : Telling). t.told.row) us) (map (λ (t : Telling). t.told.call) us) (same_lines us here) (subst (IsNonDecreasingBy (λ (r : RequestRow). r.line)) (sym back.2) sorted) in
     let calls : map (λ (t : Telling). t.told.call) us ≡ calls_of script = sorted_is_risen (λ (q : Call). q.line) (map (λ (t : Telling). t.told.call) us) (calls_of script) (rising (calls_of script) (calls_ascend 0 script numbers)) calls_moved up in
-    (h, runs.serves.settled.legal, in_order c script h us lives o (permuted reading (limits c) c h lives ts us back.1 runs.serves.agrees) here calls back.2 (runs.searchers ∙ sym searchers))
+    let notes : AllByRecursion (TellsItsNotes c) us = recursion_from_All (TellsItsNotes c) us (All-permutation (TellsItsNotes c) ts us back.1 (All-from_recursion (TellsItsNotes c) ts runs.notes)) in (
+      (h, runs.serves.settled.legal, in_order c script h us lives o (permuted reading (limits c) c h lives ts us back.1 runs.serves.agrees) here calls back.2 (runs.searchers ∙ sym searchers)),
+      subst (AllByRecursion (TellsNotes c)) (told_again us ∙ ap₂ tell calls back.2) (all_map (λ (t : Telling). t.told) (TellsNotes c) us notes),
+    )
 
 -- ---- a run so far
 
@@ -125,7 +129,7 @@ one_more_served c calls call old new before follows last =
 
 -- the end of a run in which all requests of the script were served
 pub ended : (c : Config) (script : List Line) (calls : List Call) (st : Standing) (o : Output) → Served c calls st → Ascends (map (λ l. l.number) script) → IsPermutation (calls_of script) calls
-    → IsPermutation st.rows o.requests → IsNonDecreasingBy (λ r. r.line) o.requests → o.searchers ≡ searchers_of st → GoesByHistory c script o
+    → IsPermutation st.rows o.requests → IsNonDecreasingBy (λ r. r.line) o.requests → o.searchers ≡ searchers_of st → GoesByHistory c script o × TellNotes c script o
 ended c script calls st o s numbers all moved sorted searchers =
     goes_by c script s.history s.tellings s.lives st o s.runs numbers (subst (IsPermutation (calls_of script)) (sym s.calls_are) all) moved sorted searchers
 

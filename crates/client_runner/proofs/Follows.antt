@@ -11,6 +11,7 @@ use Rattle.script_form.specs.declared.config.Config.{Config}
 use Rattle.run_laws.specs.Rows.{RequestRow, SearcherRow}
 use Rattle.run_laws.specs.Calls.{Call, Told}
 use Rattle.run_laws.specs.Lawful.{Shows, IsIdle, call_here, told_here, is_acquired_first}
+use Rattle.run_laws.specs.Notes.{TellsNotes}
 use Rattle.run_history.specs.Tellings.{Telling, Life, an_update, a_searcher, an_answer, wants, HasNumbers}
 use Rattle.run_history.specs.Agreement.{RepliesIdly}
 use Rattle.run_history.specs.Serial.{Serves, telling, idle, once_more, acquired_once_more, first_life, next_life, start_entries, update_entries, query_entries, opening_entries}
@@ -18,7 +19,7 @@ use Rattle.run_history.proofs.Requests.{idle_serves, update_serves, query_serves
 use Rattle.run_history.proofs.Starts.{starts}
 use Rattle.client_runner.specs.Histories.{reading, limits}
 use Rattle.client_runner.specs.Standings.{Standing, first, changed, acquired, opened, told_too, searchers_of, next_searcher}
-use Rattle.client_runner.specs.Runs.{Runs, Follows, IsOfItsCall, stand}
+use Rattle.client_runner.specs.Runs.{Runs, Follows, IsOfItsCall, TellsItsNotes, stand}
 
 all_more : {A : Type 0} (P : A → Type 0) (xs : List A) (x : A) → AllByRecursion P xs → P x → AllByRecursion P (xs ++ x ∷ [])
 all_more P [] x h p = (p, tt)
@@ -59,7 +60,7 @@ told_of call row = record { call = call; row = row }
 rows_more : (ts : List Telling) (rows : List RequestRow) (t : Telling) → map (λ (x : Telling). x.told.row) ts ≡ rows → map (λ (x : Telling). x.told.row) (ts ++ t ∷ []) ≡ rows ++ t.told.row ∷ []
 rows_more ts rows t same = map-append (λ (x : Telling). x.told.row) ts (t ∷ []) ∙ ap (λ xs. xs ++ t.told.row ∷ []) same
 
-module _ (c : Config) (call : Call) (st : Standing) (row : RequestRow) (here : told_here row ≡ call_here call) where
+module _ (c : Config) (call : Call) (st : Standing) (row : RequestRow) (here : told_here row ≡ call_here call) (notes : TellsNotes c (told_of call row)) where
   -- a request that did nothing
   pub idle_follows : IsIdle row → RepliesIdly c row (wants c call) → Follows c call st (told_too st row)
   idle_follows none reply h ts lives runs last = record {
@@ -72,6 +73,7 @@ module _ (c : Config) (call : Call) (st : Standing) (row : RequestRow) (here : t
           (idle_serves reading (limits c) c h ts lives (stand st) runs.serves (told_of call row) none reply);
       rows = rows_more ts st.rows (idle (told_of call row)) runs.rows;
       here = all_more IsOfItsCall ts (idle (told_of call row)) runs.here here;
+      notes = all_more (TellsItsNotes c) ts (idle (told_of call row)) runs.notes notes;
       searchers = runs.searchers;
       earlier = runs.earlier;
     };
@@ -88,6 +90,7 @@ module _ (c : Config) (call : Call) (st : Standing) (row : RequestRow) (here : t
       serves = update_serves reading (limits c) c h ts lives (stand st) runs.serves (told_of call row) (call.line, change) refl wanted numbers shown last;
       rows = rows_more ts st.rows (telling h (told_of call row)) runs.rows;
       here = all_more IsOfItsCall ts (telling h (told_of call row)) runs.here here;
+      notes = all_more (TellsItsNotes c) ts (telling h (told_of call row)) runs.notes notes;
       searchers = runs.searchers;
       earlier = runs.earlier;
     };
@@ -105,6 +108,7 @@ module _ (c : Config) (call : Call) (st : Standing) (row : RequestRow) (here : t
       serves = query_serves reading (limits c) c h ts lives (stand st) runs.serves (told_of call row) asked wanted numbers (inl shown) last;
       rows = rows_more ts st.rows (telling h (told_of call row)) runs.rows;
       here = all_more IsOfItsCall ts (telling h (told_of call row)) runs.here here;
+      notes = all_more (TellsItsNotes c) ts (telling h (told_of call row)) runs.notes notes;
       searchers = searchers_acquired st lives runs.searchers runs.earlier;
       earlier = runs.earlier;
     };
@@ -133,6 +137,7 @@ module _ (c : Config) (call : Call) (st : Standing) (row : RequestRow) (here : t
           refl wanted numbers shown last refl (other_slot st.current.generation) room (omega (arith, within)) (slot_below (st.current.generation + 1));
       rows = rows_more ts st.rows (telling h (told_of call row)) runs.rows;
       here = all_more IsOfItsCall ts (telling h (told_of call row)) runs.here here;
+      notes = all_more (TellsItsNotes c) ts (telling h (told_of call row)) runs.notes notes;
       searchers = map-append (λ (s : Life). s.row) (map (once_more st.current.generation) lives) (next_life h (stand st) ∷ [])
           ∙ ap (λ xs. xs ++ next_searcher st ∷ []) (searchers_acquired st lives runs.searchers runs.earlier);
       earlier = all_more (λ s. s.generation < st.current.generation + 1) st.earlier (acquired st).current (all_below st.current.generation st.earlier runs.earlier) (omega arith);
@@ -148,6 +153,7 @@ runs_first c room = record {
   serves = starts ℕ reading (limits c) c 1 (0, nothing) 1 [] (record { first = refl; last = omega arith; room = room; slot_below = omega arith; none = refl });
   rows = refl;
   here = tt;
+  notes = tt;
   searchers = refl;
   earlier = tt;
 }

@@ -1,7 +1,6 @@
 pub mod Ready
 pub mod Readings
 pub mod Clients
-pub mod Floats
 pub mod Rising
 pub mod Replies
 pub mod LineTexts
@@ -11,3 +10,5 @@ pub mod InTurn
 pub mod Ended
 pub mod AllIdle
 pub mod Answered
+pub mod Inputs
+pub mod TotalsText

@@ -6,6 +6,7 @@ use Rattle.script_form.specs.declared.script.Line.{Line}
 use Rattle.run_laws.specs.Rows as plain
 use Rattle.run_laws.specs.Calls.{Call, call_as}
 use Rattle.run_laws.specs.Lawful.{call_here, told_here}
+use Rattle.run_laws.specs.Notes.{TellsNotes}
 use Rattle.run_history.specs.Tellings.{Telling, Life}
 use Rattle.run_history.specs.Serial.{Stand, Serves, ComesLast}
 use Rattle.client_runner.specs.Histories.{Event, reading, limits}
@@ -28,11 +29,16 @@ stand st = record {
 abbrev pub IsOfItsCall : Telling → Type 0
 IsOfItsCall t = told_here t.told.row ≡ call_here t.told.call
 
+-- and tells the notes of its request
+abbrev pub TellsItsNotes : Config → Telling → Type 0
+TellsItsNotes c t = TellsNotes c t.told
+
 -- The history is legal, and the rows and searchers so far agree with it.
 pub record Runs (c : Config) (h : List Event) (ts : List Telling) (lives : List Life) (st : Standing) : Type 0 where
   pub serves : Serves reading (limits c) c h ts lives (stand st)
   pub rows : map (λ t. t.told.row) ts ≡ st.rows
   pub here : AllByRecursion IsOfItsCall ts
+  pub notes : AllByRecursion (TellsItsNotes c) ts
   pub searchers : map (λ s. s.row) lives ≡ searchers_of st
   pub earlier : AllByRecursion (λ s. s.generation < st.current.generation) st.earlier
 

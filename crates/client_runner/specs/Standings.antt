@@ -5,9 +5,14 @@ use Rattle.doc_model.specs.Document.{Document}
 use Rattle.request_form.specs.declared.request.Request.{Request}
 use Rattle.search_model.specs.Live.{Change, after}
 use Rattle.search_model.specs.Answer.{answer}
+use Rattle.field_schema.specs.declared.field.FieldList.TheVariants.{All}
+use Rattle.serde_json.specs.Written.{compact_text}
+use Rattle.reply_json.specs.Answers.{answer_data}
+use Rattle.reply_json.specs.declared.replies.Answer.{Answer}
 use Rattle.search_model.specs.Reply.{Outcome, found, refused, reply_text, code_of, found_of, docs_of}
 use Rattle.run_laws.specs.Rows.{RequestRow, SearcherRow}
 use Rattle.run_laws.specs.Calls.{Call}
+use Rattle.run_laws.specs.Notes.{Noted, not_noted}
 use Rattle.run_history.specs.Serial.{first_row}
 use Rattle.run_laws.specs.CallReadings.{asked_by}
 use Rattle.client_runner.specs.declared.rows.RequestRow as rows
@@ -113,10 +118,30 @@ shown_row h place generation ticket r = record {
   code = r.code;
   found = r.found;
   docs = r.docs;
+  result = r.result;
+  filters = r.filters;
+  doc_hits = r.doc_hits;
 }
+
+-- what a reply's row will tell of the caches
+abbrev pub noted_in : Reply → Noted
+noted_in r = record { result = r.result; filters = r.filters; doc_hits = r.doc_hits }
+
+-- the text of a reply without documents
+abbrev pub bare_text : Config → Answer → List ℕ
+bare_text c a = compact_text (answer_data c.schema All a)
+
+-- a reply of this text and code, without documents, which tells nothing of the caches
+pub record IsBare (text : List ℕ) (code : ℕ) (r : Reply) : Type 0 where
+  pub text_is : r.text ≡ text
+  pub code_is : r.code ≡ code
+  pub found : r.found ≡ 0
+  pub docs : r.docs ≡ 0
+  pub notes : noted_in r ≡ not_noted
 
 -- the row of a request that was refused with a message
 pub record IsRefusal (c : Config) (h : Head) (message : List ℕ) (row : rows.RequestRow) : Type 0 where
   pub reply : Reply
   pub row_is : request_view row ≡ shown_row h None None None reply
   pub shown : Shown c (refused message) reply
+  pub notes : noted_in reply ≡ not_noted

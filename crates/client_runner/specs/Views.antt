@@ -24,6 +24,9 @@ request_view r = record {
   code = r.code;
   found = r.found;
   docs = r.docs;
+  result = r.result;
+  filters = r.filters;
+  doc_hits = r.doc_hits;
 }
 
 abbrev pub searcher_view : SearcherRow → plain.SearcherRow

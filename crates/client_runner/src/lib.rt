@@ -4,17 +4,17 @@
 #![tactic(auto)]
 
 mod laws;
-mod messages;
 mod order;
 mod output;
-mod reply;
 mod rows;
 mod run;
 mod runner;
 mod serve;
+mod summary;
 
 pub use laws::every_script_has_a_lawful_output;
 pub use output::output_text;
 pub use rows::{Output, RequestRow, RequestRows, SearcherList, SearcherRow, Verb};
 pub use run::run_script;
 pub use serve::defaults;
+pub use summary::summary_text;

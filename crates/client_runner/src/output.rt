@@ -11,7 +11,7 @@ use script_form::Config;
 use std::alloc::Global;
 
 // Writes a piece.
-fn put_text(out: &mut String, piece: &str) -> Result<(), NoMemory>
+pub(crate) fn put_text(out: &mut String, piece: &str) -> Result<(), NoMemory>
     ensures { OnOk result (Grows (string_bytes out.old) (string_bytes out.new) piece.now) }
 {
     out.push_str(piece)?;
@@ -26,7 +26,7 @@ fn put_reply(out: &mut String, reply: &Text) -> Result<(), NoMemory>
 }
 
 // Writes a piece and a number behind it.
-fn put_number(out: &mut String, piece: &str, number: u64) -> Result<(), NoMemory>
+pub(crate) fn put_number(out: &mut String, piece: &str, number: u64) -> Result<(), NoMemory>
     ensures { OnOk result (Grows (string_bytes out.old) (string_bytes out.new) (number_piece piece.now number)) }
 {
     write!(out, "{piece}{number}")?;

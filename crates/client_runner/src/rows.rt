@@ -1,4 +1,5 @@
 use field_schema::Text;
+use search_model::{Note, Notes};
 use std::marker::Model;
 
 /// What a request asks for.
@@ -31,6 +32,12 @@ pub struct RequestRow {
     pub found: u32,
     /// How many documents the reply has.
     pub docs: u32,
+    /// What the cache of results did for a query that was answered.
+    pub result: Option<Note>,
+    /// What the cache of filters did for each filter of such a query.
+    pub filters: Notes,
+    /// How many documents of the reply the cache of documents gave.
+    pub doc_hits: u32,
 }
 
 /// The rows of requests, in the order of the script. Contracts see them as a list of plain rows.

@@ -2,6 +2,7 @@ ghost use Rattle.std.specs.Prelude.{◌≡◌, ◌<◌, ◌≤◌, IfOk, OnOk, l
 ghost use Rattle.std.specs.List.{All};
 ghost use Rattle.std.specs.List.Sorted.{IsNonDecreasingBy, IsPermutation};
 ghost use Rattle.script_form.specs.Ranges.{HasClient};
+ghost use Rattle.run_laws.specs.Notes.{TellNotes};
 ghost use Rattle.run_laws.specs.Lawful.{Ascends, Lawful, is_acquired_first as acquired_first};
 ghost use Rattle.client_runner.specs.Histories.{GoesByHistory};
 ghost use Rattle.client_runner.specs.Outputs.{output_view};
@@ -97,6 +98,7 @@ pub fn run_script<G: Gate>(
     requires clients { All (λ line. HasClient 12 line.what) script.now }
     ensures agrees { IfOk result (λ o. GoesByHistory config.now script.now (output_view o)) }
     ensures lawful { IfOk result (λ o. Lawful config.now script.now (output_view o)) }
+    ensures notes { IfOk result (λ o. TellNotes config.now script.now (output_view o)) }
 {
     let _ = gate;
     let turns = turns(alloc, script.get())?;

@@ -11,6 +11,7 @@ use crate::rows::{RequestRow, SearcherRow, Verb};
 use doc_model::Doc;
 use field_schema::{FieldNo, NoMemory, Text};
 use request_form::DeleteForm;
+use search_model::{Note, Notes};
 use served_index::Index;
 use std::alloc::Global;
 
@@ -23,13 +24,16 @@ pub(crate) struct Head {
     pub(crate) verb: Verb,
 }
 
-// The reply of a row, and the numbers in it.
+// The reply of a row, the numbers in it, and what the caches did for it.
 #[derive(Drop)]
 pub(crate) struct Reply {
     pub(crate) text: Text,
     pub(crate) code: u32,
     pub(crate) found: u32,
     pub(crate) docs: u32,
+    pub(crate) result: Option<Note>,
+    pub(crate) filters: Notes,
+    pub(crate) doc_hits: u32,
 }
 
 impl Head {
@@ -54,6 +58,9 @@ impl Head {
             code: reply.code,
             found: reply.found,
             docs: reply.docs,
+            result: reply.result,
+            filters: reply.filters,
+            doc_hits: reply.doc_hits,
         }
     }
 }

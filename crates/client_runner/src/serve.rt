@@ -1,79 +1,93 @@
-ghost use Rattle.std.specs.Prelude.{◌≡◌, ◌<◌, IfOk, OnOk, OnErr, false, map};
+ghost use Rattle.std.specs.Prelude.{◌≡◌, ◌<◌, IfOk, OnOk, OnErr, Ok, false, map};
+ghost use Rattle.doc_model.specs.ReadDoc.{is_no_memory as is_no_memory_of_doc};
+ghost use Rattle.search_model.specs.Messages.{doc_message};
+ghost use Rattle.reply_json.specs.Answers.{IsSound};
 ghost use Rattle.request_form.specs.Messages.{request_message};
 ghost use Rattle.request_form.specs.Requests.{is_no_memory};
-ghost use Rattle.search_model.specs.Reply.{accepted, no_memory, refused};
+ghost use Rattle.search_model.specs.Reply.{accepted, no_memory};
 ghost use Rattle.run_laws.specs.CallReadings.{defaults_of};
 ghost use Rattle.client_runner.specs.declared.rows.Verb.TheVariants as Verb;
 ghost use Rattle.client_runner.specs.Rooms.{IsReady, StaysReady};
 ghost use Rattle.client_runner.specs.Runs.{AnswersBy, Follows};
-ghost use Rattle.client_runner.specs.Standings.{IsRefusal, Shown, call_of, found_by, standing};
+ghost use Rattle.run_laws.specs.Notes.{not_noted, note_of as note_of_cached, noted_by};
+ghost use Rattle.client_runner.specs.Standings.{IsBare, IsRefusal, Shown, bare_text, call_of, found_by, noted_in, standing};
 
-use crate::messages::{doc_message_text, request_message_text};
-use crate::reply::{accepted_value, docs_value, found_value, refused_value, text_of};
 use crate::rows::{RequestRow, Verb};
 use crate::runner::{Head, Reply, Runner};
-use doc_model::Doc;
-use field_schema::NoMemory;
+use doc_model::{Doc, DocFault};
+use field_schema::{FieldList, NoMemory};
 use query_tree::Query;
+use reply_json::{Answer, reply_text};
 use request_form::{CommitForm, Defaults, DeleteForm, Filter, Request, RequestFault};
 use script_form::Config;
+use search_model::{Note, Notes};
 use served_index::Index;
+use sqlite_items::Items;
 use std::alloc::Global;
 
-// The reply to an accepted update or commit.
-fn accepted_reply(alloc: Global, config: &Config) -> Result<Reply, NoMemory>
-    ensures { IfOk result (Shown config.now accepted) }
+// The reply to an answer without documents, for which no cache was asked.
+fn bare_reply(alloc: Global, config: &Config, answer: &Answer, code: u32) -> Result<Reply, NoMemory>
+    requires { IsSound answer.now }
+    ensures { IfOk result (IsBare (bare_text config.now answer.now) code) }
 {
-    let value = accepted_value(alloc)?;
-    let text = text_of(alloc, &value)?;
     Ok(Reply {
-        text,
-        code: 0,
+        text: reply_text(alloc, &config.schema, answer, &FieldList::All)?,
+        code,
         found: 0,
         docs: 0,
+        result: None,
+        filters: Items::new(alloc),
+        doc_hits: 0,
     })
 }
 
-// The reply to a refused request.
-fn refused_reply(alloc: Global, config: &Config, message: &str) -> Result<Reply, NoMemory>
-    ensures { IfOk result (Shown config.now (refused message.now)) }
+// The reply to an accepted update or commit.
+fn accepted_reply(alloc: Global, config: &Config) -> Result<Reply, NoMemory>
+    ensures shown { IfOk result (Shown config.now accepted) }
+    ensures notes { IfOk result (λ r. noted_in r ≡ not_noted) }
 {
-    let value = refused_value(alloc, 400, message)?;
-    let text = text_of(alloc, &value)?;
-    Ok(Reply {
-        text,
-        code: 400,
-        found: 0,
-        docs: 0,
-    })
+    bare_reply(alloc, config, &Answer::Accepted, 0)
 }
 
 // The reply to a request for which there was no memory.
 fn no_memory_reply(alloc: Global, config: &Config) -> Result<Reply, NoMemory>
-    ensures { IfOk result (Shown config.now no_memory) }
+    ensures shown { IfOk result (Shown config.now no_memory) }
+    ensures notes { IfOk result (λ r. noted_in r ≡ not_noted) }
 {
-    let value = refused_value(alloc, 500, "NoMemory")?;
-    let text = text_of(alloc, &value)?;
-    Ok(Reply {
-        text,
-        code: 500,
-        found: 0,
-        docs: 0,
-    })
+    bare_reply(alloc, config, &Answer::NoMemory, 500)
 }
 
-// The row of a request that does not read.
+// The row of an add whose document does not read.
+fn refused_doc(
+    alloc: Global,
+    config: &Config,
+    head: Head,
+    fault: DocFault,
+) -> Result<RequestRow, NoMemory>
+    ensures fault { OnOk result (is_no_memory_of_doc fault ≡ false) }
+    ensures row { IfOk result (IsRefusal config.now head (doc_message fault)) }
+{
+    if matches!(fault, DocFault::NoMemory) {
+        return Err(NoMemory);
+    }
+    let reply = bare_reply(alloc, config, &Answer::BadDoc(fault), 400)?;
+    Ok(head.row(None, None, None, reply))
+}
+
+// The row of a request whose parameters do not read.
 fn refused_row(
     alloc: Global,
     config: &Config,
     head: Head,
-    fault: &RequestFault,
+    fault: RequestFault,
 ) -> Result<RequestRow, NoMemory>
-    ensures fault { OnOk result (is_no_memory fault.now ≡ false) }
-    ensures row { IfOk result (IsRefusal config.now head (request_message fault.now)) }
+    ensures fault { OnOk result (is_no_memory fault ≡ false) }
+    ensures row { IfOk result (IsRefusal config.now head (request_message fault)) }
 {
-    let message = request_message_text(alloc, fault)?;
-    let reply = refused_reply(alloc, config, message.get())?;
+    if matches!(fault, RequestFault::NoMemory) {
+        return Err(NoMemory);
+    }
+    let reply = bare_reply(alloc, config, &Answer::BadRequest(fault), 400)?;
     Ok(head.row(None, None, None, reply))
 }
 
@@ -88,6 +102,28 @@ fn queries(alloc: Global, filters: &[Filter]) -> Result<Vec<&Query>, NoMemory>
     Ok(queries)
 }
 
+// What a query that may use the caches, or may not, tells of them: nothing is kept yet.
+fn note_of(cached: bool) -> Note
+    ensures { result ≡ note_of_cached cached }
+{
+    if cached {
+        Note::Computed
+    } else {
+        Note::Bypassed
+    }
+}
+
+// The notes of filters.
+fn notes(alloc: Global, filters: &[Filter]) -> Result<Notes, NoMemory>
+    ensures { IfOk result (λ v. v ≡ map (λ f. note_of_cached f.cached) filters.now) }
+{
+    let mut notes = Vec::with_capacity(alloc, filters.len())?;
+    for filter in filters {
+        notes.push(note_of(filter.cached))?;
+    }
+    Ok(Items::from_vec(notes))
+}
+
 // The reply of a request, on what the current searcher sees.
 fn found_reply(
     alloc: Global,
@@ -95,7 +131,8 @@ fn found_reply(
     index: &Index,
     request: &Request,
 ) -> Result<Reply, NoMemory>
-    ensures { IfOk result (Shown config.now (found_by index.now.served request.now)) }
+    ensures shown { IfOk result (Shown config.now (found_by index.now.served request.now)) }
+    ensures notes { IfOk result (λ r. noted_in r ≡ noted_by (Ok request.now)) }
 {
     let filters = queries(alloc, request.filters.as_slice())?;
     let (page, found) = index.search(
@@ -106,14 +143,20 @@ fn found_reply(
         request.start,
         request.rows,
     )?;
-    let docs = docs_value(alloc, &config.schema, &page, &request.fields)?;
-    let value = found_value(alloc, docs, found, request.start)?;
-    let text = text_of(alloc, &value)?;
+    let docs = page.len() as u32;
+    let answer = Answer::Found {
+        found,
+        start: request.start,
+        docs: page,
+    };
     Ok(Reply {
-        text,
+        text: reply_text(alloc, &config.schema, &answer, &request.fields)?,
         code: 0,
         found,
-        docs: page.len() as u32,
+        docs,
+        result: Some(note_of(request.q_cached)),
+        filters: notes(alloc, request.filters.as_slice())?,
+        doc_hits: 0,
     })
 }
 
@@ -193,11 +236,7 @@ impl Runner {
                 let place = self.add(alloc, doc)?;
                 Ok(head.row(Some(place), None, None, reply))
             }
-            Err(fault) => {
-                let message = doc_message_text(alloc, &fault)?;
-                let reply = refused_reply(alloc, config, message.get())?;
-                Ok(head.row(None, None, None, reply))
-            }
+            Err(fault) => refused_doc(alloc, config, head, fault),
         }
     }
 
@@ -221,7 +260,7 @@ impl Runner {
                 let place = self.remove(alloc, &form)?;
                 Ok(head.row(Some(place), None, None, reply))
             }
-            Err(fault) => refused_row(alloc, config, head, &fault),
+            Err(fault) => refused_row(alloc, config, head, fault),
         }
     }
 
@@ -241,7 +280,7 @@ impl Runner {
     {
         let request = match Request::read(alloc, &config.schema, &defaults(config), body) {
             Ok(request) => request,
-            Err(fault) => return refused_row(alloc, config, head, &fault),
+            Err(fault) => return refused_row(alloc, config, head, fault),
         };
         let reply = found_reply(alloc, config, &self.index, &request)?;
         let generation = self.current.generation;
@@ -266,7 +305,7 @@ impl Runner {
     {
         let form = match CommitForm::read(alloc, body) {
             Ok(form) => form,
-            Err(fault) => return refused_row(alloc, config, head, &fault),
+            Err(fault) => return refused_row(alloc, config, head, fault),
         };
         let reply = accepted_reply(alloc, config)?;
         if !form.opens {

@@ -169,6 +169,9 @@ row client number verb place generation ticket o = record {
   code = code_of o;
   found = found_of o;
   docs = docs_of o;
+  result = None;
+  filters = [];
+  doc_hits = 0;
 }
 
 abbrev pub added_at : ℕ → ℕ → ℕ → RequestRow

@@ -1,2 +1,7 @@
-//! What a search answers: definitions alone, over documents as lists of keys. No index, window or cache is in them.
+//! What a search answers: definitions, over documents as lists of keys, and the notes of what caches did. No index, window or cache is
+//! in them.
 #![tactic(auto)]
+
+mod notes;
+
+pub use notes::{Note, Notes};

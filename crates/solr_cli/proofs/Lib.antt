@@ -1,3 +1,3 @@
-pub mod Inputs
 pub mod Parts
 pub mod Runs
+pub mod Made

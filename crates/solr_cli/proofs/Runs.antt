@@ -4,13 +4,15 @@ use Rattle.std.proofs.lemmas.Bool.Decides.{nat_tests}
 use Rattle.std.specs.Io.KnownBytes.{Consumes, IsAtEnd}
 use Rattle.script_form.specs.Lines.{most_input, too_large}
 use Rattle.field_schema.specs.declared.text.Text.{Text}
+use Rattle.script_form.specs.declared.config.Config.{Config}
 use Rattle.client_runner.specs.declared.rows.Output.{Output}
 use Rattle.client_runner.specs.Outputs.{output_view}
 use Rattle.solr_cli.specs.declared.status.Status.{Status}
 use Rattle.solr_cli.specs.declared.status.Status.TheVariants as status
 use Rattle.solr_cli.specs.Answering.{IsAnswer, IsRefusal, ReadsTo}
 use Rattle.solr_cli.specs.InputRuns.{IsCountOf, IsCountsLine, IsReadRefusal, IsRunFrom, TellsCounts, TellsCountsFrom}
-use Rattle.solr_cli.proofs.Inputs.{beyond_input, within_input}
+use Rattle.solr_cli.specs.Top.{IsRun}
+use Rattle.client_runner.proofs.Inputs.{beyond_input, within_input}
 
 -- the bytes that were taken are all of them
 all_taken : (xs ys bytes : List ℕ) → xs ≡ bytes ++ ys → ys ≡ [] → bytes ≡ xs
@@ -20,17 +22,20 @@ all_taken xs ys bytes h e = sym (h ∙ ap (λ t. bytes ++ t) e ∙ append-nil by
 is_all : (xs ys bytes : List ℕ) → Consumes (Some xs) (Some ys) bytes → (length bytes ≤ most_input → IsAtEnd (Some ys)) → too_large bytes ≡ false → bytes ≡ xs
 is_all xs ys bytes h end w = all_taken xs ys bytes h (end (within_input bytes w))
 
-run_of : (xs ys bytes : List ℕ) (p : Output × Text) → Consumes (Some xs) (Some ys) bytes → (length bytes ≤ most_input → IsAtEnd (Some ys))
-    → IsAnswer bytes (output_view p.0) p.1 → IsRunFrom xs (Some ys) p.0
-run_of xs ys bytes p h end (config, script, reads, history, lawful, text) =
-    let all = is_all xs ys bytes h end reads.within in
+-- an input that was answered was run
+pub is_run : (bytes : List ℕ) (config : Config) (o : Output) → IsAnswer bytes config (output_view o) → IsRun bytes o
+is_run bytes config o a = (config, a.script, record { reads = a.reads; history = a.history; lawful = a.lawful; notes = a.notes })
+
+run_of : (xs ys bytes : List ℕ) (r : Config × Output) → Consumes (Some xs) (Some ys) bytes → (length bytes ≤ most_input → IsAtEnd (Some ys))
+    → IsAnswer bytes r.0 (output_view r.1) → IsRunFrom xs (Some ys) r.1
+run_of xs ys bytes r h end a =
     record {
-      ended = ap (λ t. Some t) (end (within_input bytes reads.within));
-      ran = (config, script, record { reads = subst (λ t. ReadsTo t config script) all reads; history = history; lawful = lawful });
+      ended = ap (λ t. Some t) (end (within_input bytes a.reads.within));
+      ran = subst (λ t. IsRun t r.1) (is_all xs ys bytes h end a.reads.within) (is_run bytes r.0 r.1 a);
     }
 
-pub ran_over : (old new : Option (List ℕ)) (bytes : List ℕ) (r : Result (Output × Text) Status) → Consumes old new bytes → (length bytes ≤ most_input → IsAtEnd new)
-    → MatchResult r (λ p. IsAnswer bytes (output_view p.0) p.1) (IsRefusal bytes) → IfSome old (λ xs. IfOk r (λ p. IsRunFrom xs new p.0))
+pub ran_over : (old new : Option (List ℕ)) (bytes : List ℕ) (r : Result (Config × Output) Status) → Consumes old new bytes → (length bytes ≤ most_input → IsAtEnd new)
+    → MatchResult r (λ p. IsAnswer bytes p.0 (output_view p.1)) (IsRefusal bytes) → IfSome old (λ xs. IfOk r (λ p. IsRunFrom xs new p.1))
 ran_over None new bytes r h end a = tt
 ran_over (Some xs) None bytes r h end a = absurd h
 ran_over (Some xs) (Some ys) bytes (Ok p) h end a = run_of xs ys bytes p h end a

@@ -11,7 +11,7 @@ use Rattle.script_form.specs.declared.script.ScriptRefusal.TheVariants as script
 use Rattle.script_form.specs.declared.config.ConfigRefusal.TheVariants as config_refusal
 use Rattle.run_laws.specs.Rows.{Output}
 use Rattle.run_laws.specs.Lawful.{Lawful}
-use Rattle.run_laws.specs.OutputText.{output_text}
+use Rattle.run_laws.specs.Notes.{TellNotes}
 use Rattle.client_runner.specs.Histories.{GoesByHistory}
 use Rattle.solr_cli.specs.declared.status.Status.{Status}
 use Rattle.solr_cli.specs.declared.status.Status.TheVariants as status
@@ -41,8 +41,10 @@ IsRefusal input status.TooLarge = too_large input ≡ true
 IsRefusal input status.NoMemory = ⊤
 IsRefusal input _ = ⊥
 
--- the input reads, its output goes by a legal history and is lawful, and this is the output's text
-abbrev pub IsAnswer : List ℕ → Output → List ℕ → Type 0
-IsAnswer input output text =
-    (config : Config) × (script : List Line) × ReadsTo input config script
-    × GoesByHistory config script output × Lawful config script output × (text ≡ output_text output)
+-- the input reads to this configuration, and its output goes by a legal history, is lawful and tells the notes of its requests
+pub record IsAnswer (input : List ℕ) (config : Config) (output : Output) : Type 0 where
+  pub script : List Line
+  pub reads : ReadsTo input config script
+  pub history : GoesByHistory config script output
+  pub lawful : Lawful config script output
+  pub notes : TellNotes config script output

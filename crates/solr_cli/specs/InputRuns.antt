@@ -8,7 +8,7 @@ use Rattle.solr_cli.specs.declared.status.Status.{Status}
 use Rattle.solr_cli.specs.declared.status.Status.TheVariants as status
 use Rattle.script_counts.specs.Counts.{check_text}
 use Rattle.solr_cli.specs.Answering.{IsRefusal, ReadsTo}
-use Rattle.solr_cli.specs.Top.{RunsTo, CountsReads}
+use Rattle.solr_cli.specs.Top.{CountsReads, IsRun}
 
 -- a read fault is told where the source's count rose, and all else where it is as before
 abbrev pub TellsReads : {A : Type 0} → ℕ → ℕ → Result A Status → Type 0
@@ -30,11 +30,11 @@ Refuses _ = ⊤
 -- what running an input gives: its output and the output's text
 pub record IsRunFrom (input : List ℕ) (left : Option (List ℕ)) (output : Output) : Type 0 where
   pub ended : left ≡ Some []
-  pub ran : (config : Config) × (script : List Line) × RunsTo input config script output
+  pub ran : IsRun input output
 
 -- the same where the source tells its bytes and the input was run
-abbrev pub RanFrom : Option (List ℕ) → Option (List ℕ) → Result (Output × Text) Status → Type 0
-RanFrom before after result = IfSome before (λ input. IfOk result (λ r. IsRunFrom input after r.0))
+abbrev pub RanFrom : Option (List ℕ) → Option (List ℕ) → Result (Config × Output) Status → Type 0
+RanFrom before after result = IfSome before (λ input. IfOk result (λ r. IsRunFrom input after r.1))
 
 -- ---- the counts of a script
 

@@ -3,8 +3,8 @@ ghost use Rattle.client_runner.specs.Outputs.{output_view};
 ghost use Rattle.solr_cli.specs.Answering.{IsAnswer, IsRefusal, ReadsTo};
 
 use crate::status::Status;
-use client_runner::{Output, output_text, run_script};
-use field_schema::Text;
+use client_runner::{Output, run_script};
+use field_schema::NoMemory;
 use rt_edge::Gate;
 use script_form::{
     Config, ConfigRefusal, Script, ScriptRefusal, read_config, read_script, too_large,
@@ -38,20 +38,17 @@ pub(crate) fn read_input(alloc: Global, bytes: &[u8]) -> Result<(Config, Script)
     }
 }
 
-// Runs an input: its output and the output's text, or the first status that refuses it.
+// Runs an input: its configuration and its output, or the first status that refuses it.
 pub(crate) fn answer<G: Gate>(
     alloc: Global,
     bytes: &[u8],
     gate: &G,
-) -> Result<(Output, Text), Status>
-    ensures { MatchResult result (λ r. IsAnswer bytes.now (output_view r.0) r.1) (IsRefusal bytes.now) }
+) -> Result<(Config, Output), Status>
+    ensures { MatchResult result (λ r. IsAnswer bytes.now r.0 (output_view r.1)) (IsRefusal bytes.now) }
 {
     let (config, script) = read_input(alloc, bytes)?;
-    let Ok(output) = run_script(alloc, &config, &script, gate) else {
-        return Err(Status::NoMemory);
-    };
-    let Ok(text) = output_text(alloc, &config, &output) else {
-        return Err(Status::NoMemory);
-    };
-    Ok((output, text))
+    match run_script(alloc, &config, &script, gate) {
+        Ok(output) => Ok((config, output)),
+        Err(NoMemory) => Err(Status::NoMemory),
+    }
 }

@@ -1,30 +1,32 @@
 ghost use Rattle.std.specs.Prelude.{◌≡◌, map, string_bytes};
-ghost use Rattle.solr_cli.specs.Commands.{command_of, lone_command, numbered_command};
+ghost use Rattle.solr_cli.specs.Commands.{command_of, lone_command, paired_command};
 
 use script_form::decimal_within;
 
 /// What the words of a command line ask for.
 #[derive(Clone, Copy, Debug, PartialEq, Eq)]
 pub enum Command {
-    /// Reads the input to its end, runs it and writes its output.
-    Run,
+    /// Reads the input to its end, runs it and writes its output, or its summary.
+    Run { summary: bool },
     /// Reads the input to its end and writes the counts of its script.
     Check,
     /// Writes the generator's script of so many documents, 1 to 20,000.
     Make(u32),
+    /// Runs the generator's script of so many documents, 1 to 20,000, and writes its summary.
+    Drill(u32),
 }
 
 // The greatest number of documents of a generated script.
 const MOST_MADE: u32 = 20_000;
 
-/// What words ask for, compared as they stand: `run`, `check`, or `make` and a number from 1 to 20,000 in decimal, without a
-/// sign or a leading zero. None for all other words. It takes no memory.
+/// What words ask for, compared as they stand: `run`, `run --summary`, `check`, or `make` or `drill` and a number from 1 to 20,000
+/// in decimal, without a sign or a leading zero. None for all other words. It takes no memory.
 pub fn read_words(words: &[String]) -> Option<Command>
     ensures { result ≡ command_of (map string_bytes words.now) }
 {
     match words {
         [word] => lone(word.as_str()),
-        [word, number] => numbered(word.as_str(), number.as_str()),
+        [word, other] => paired(word.as_str(), other.as_str()),
         _ => None,
     }
 }
@@ -34,7 +36,7 @@ fn lone(word: &str) -> Option<Command>
     ensures { result ≡ lone_command word.now }
 {
     if word == "run" {
-        Some(Command::Run)
+        Some(Command::Run { summary: false })
     } else if word == "check" {
         Some(Command::Check)
     } else {
@@ -42,14 +44,14 @@ fn lone(word: &str) -> Option<Command>
     }
 }
 
-// The command of a word and a number.
-fn numbered(word: &str, number: &str) -> Option<Command>
-    ensures { result ≡ numbered_command word.now number.now }
+// The command of two words.
+fn paired(word: &str, other: &str) -> Option<Command>
+    ensures { result ≡ paired_command word.now other.now }
 {
-    if word == "make" {
-        let count = decimal_within(number, 1, MOST_MADE)?;
-        Some(Command::Make(count))
-    } else {
-        None
+    match word {
+        "run" if other == "--summary" => Some(Command::Run { summary: true }),
+        "make" => Some(Command::Make(decimal_within(other, 1, MOST_MADE)?)),
+        "drill" => Some(Command::Drill(decimal_within(other, 1, MOST_MADE)?)),
+        _ => None,
     }
 }

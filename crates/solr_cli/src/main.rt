@@ -5,6 +5,7 @@ mod answer;
 mod arguments;
 mod check;
 mod command;
+mod drill;
 mod ending;
 mod make;
 mod reading;

@@ -1,28 +1,30 @@
 ghost use Rattle.std.specs.Prelude.{◌≡◌, ◌≢◌, ◌↔◌, false, true, None, IfOk, IfErr, IfSome, map, string_bytes};
-ghost use Rattle.run_laws.specs.OutputText.{output_text};
+ghost use Rattle.script_maker.specs.Laws.{IsCount};
 ghost use Rattle.client_runner.specs.Outputs.{output_view};
 ghost use Rattle.solr_cli.specs.declared.status.Status.TheVariants as Status;
 ghost use Rattle.solr_cli.specs.InputRuns.{IsReadRefusal, RanFrom, Refuses, TellsReads};
-ghost use Rattle.solr_cli.specs.Commands.{command_of, is_make, reads_input};
-ghost use Rattle.solr_cli.specs.Top.{Completes, CountsReads, CountsWrites, ExplainsAll, IsDoneOrWanting, IsExplained, IsFlushed, IsSteady, WhereQuiet, Writes, WritesOutput};
+ghost use Rattle.solr_cli.specs.Commands.{command_of, is_made, reads_input};
+ghost use Rattle.solr_cli.specs.Top.{Completes, CountsReads, CountsWrites, EndsWriting, ExplainsAll, ExplainsDrill, IsDoneOrWanting, IsExplained, IsFlushed, IsKept, IsSteady, WhereQuiet, Writes, WritesOutput, told_text};
 
 use crate::answer::answer;
 use crate::check::check_script;
 use crate::command::{Command, read_words};
+use crate::drill::run_made;
 use crate::make::make_script;
 use crate::reading::{ReadRefusal, read_all};
 use crate::status::Status;
-use crate::writing::write_text;
-use client_runner::Output;
-use field_schema::Text;
+use crate::writing::write_status;
+use client_runner::{Output, output_text, summary_text};
+use field_schema::{NoMemory, Text};
 use rt_edge::{Gate, Sink, Source};
+use script_form::Config;
 use std::alloc::Global;
 
 /// How a command ended, and the output whose text was written.
 #[derive(Debug, Drop)]
 pub struct Ran {
     pub status: Status,
-    /// It is there exactly where the words are `run` and the status is Done or WriteFault.
+    /// Of a run or a drill, where its text or its summary was written or a write failed; else nothing.
     pub output: Option<Output>,
 }
 
@@ -31,9 +33,8 @@ fn run_input<S: Source, G: Gate>(
     alloc: Global,
     input: &mut S,
     gate: &G,
-) -> Result<(Output, Text), Status>
+) -> Result<(Config, Output), Status>
     ensures reads { TellsReads (S.faults input.old) (S.faults input.new) result }
-    ensures text { IfOk result (λ r. r.1 ≡ output_text (output_view r.0)) }
     ensures ran { RanFrom (S.left input.old) (S.left input.new) result }
     ensures refuses { IfErr result Refuses }
     ensures refused { IfSome (S.left input.old) (λ bytes. IfErr result (IsReadRefusal bytes)) }
@@ -45,18 +46,58 @@ fn run_input<S: Source, G: Gate>(
     }
 }
 
-// Runs an input and writes its output.
+// The summary of an output, or its text.
+fn text_of(alloc: Global, config: &Config, output: &Output, summary: bool) -> Result<Text, NoMemory>
+    ensures { IfOk result (λ t. t ≡ told_text summary (output_view output.now)) }
+{
+    if summary {
+        summary_text(alloc, output)
+    } else {
+        output_text(alloc, config, output)
+    }
+}
+
+// Writes what is told of an output.
+fn write_output<K: Sink>(
+    alloc: Global,
+    config: &Config,
+    output: Output,
+    summary: bool,
+    out: &mut K,
+) -> Ran
+    ensures ends { EndsWriting result.status }
+    ensures output { IsKept output result }
+    ensures faults { CountsWrites result.status (K.faults out.old) (K.faults out.new) }
+    ensures quiet { WhereQuiet result.status (out.new ≡ out.old) }
+    ensures writes { WritesOutput summary result.status result.output (K.held out.old) (K.held out.new) }
+    ensures flushed { result.status ≡ Status.Done → IsFlushed (K.flushed out.old) (K.flushed out.new) }
+    ensures completes { IsSteady (K.faults out.old) (K.faults out.new) → IsDoneOrWanting result.status }
+{
+    let Ok(text) = text_of(alloc, config, &output, summary) else {
+        return Ran {
+            status: Status::NoMemory,
+            output: None,
+        };
+    };
+    Ran {
+        status: write_status(out, text.get()),
+        output: Some(output),
+    }
+}
+
+// Runs an input and writes its output, or its summary.
 fn run_and_write<S: Source, K: Sink, G: Gate>(
     alloc: Global,
     input: &mut S,
     out: &mut K,
     gate: &G,
+    summary: bool,
 ) -> Ran
     ensures asked { result.status ≢ Status.Usage }
     ensures reads { CountsReads result.status (S.faults input.old) (S.faults input.new) }
     ensures faults { CountsWrites result.status (K.faults out.old) (K.faults out.new) }
     ensures quiet { WhereQuiet result.status (out.new ≡ out.old) }
-    ensures writes { WritesOutput result.status result.output (K.held out.old) (K.held out.new) }
+    ensures writes { WritesOutput summary result.status result.output (K.held out.old) (K.held out.new) }
     ensures flushed { result.status ≡ Status.Done → IsFlushed (K.flushed out.old) (K.flushed out.new) }
     ensures explained { IsExplained (S.left input.old) (S.left input.new) result.status result.output }
     ensures completes { IsSteady (S.faults input.old) (S.faults input.new)
@@ -64,16 +105,27 @@ fn run_and_write<S: Source, K: Sink, G: Gate>(
         → IfSome (S.left input.old) (Completes result.status) }
 {
     match run_input(alloc, input, gate) {
-        Ok((output, text)) => {
-            let status = match write_text(out, text.get().as_bytes()) {
-                Ok(()) => Status::Done,
-                Err(_) => Status::WriteFault,
-            };
-            Ran {
-                status,
-                output: Some(output),
-            }
-        }
+        Ok((config, output)) => write_output(alloc, &config, output, summary, out),
+        Err(status) => Ran {
+            status,
+            output: None,
+        },
+    }
+}
+
+// Runs the generator's script of `n` documents and writes its summary.
+fn drill<K: Sink, G: Gate>(alloc: Global, n: u32, out: &mut K, gate: &G) -> Ran
+    requires count { IsCount n }
+    ensures asked { result.status ≢ Status.Usage }
+    ensures faults { CountsWrites result.status (K.faults out.old) (K.faults out.new) }
+    ensures quiet { WhereQuiet result.status (out.new ≡ out.old) }
+    ensures writes { WritesOutput true result.status result.output (K.held out.old) (K.held out.new) }
+    ensures flushed { result.status ≡ Status.Done → IsFlushed (K.flushed out.old) (K.flushed out.new) }
+    ensures explained { ExplainsDrill n result.status result.output }
+    ensures completes { IsSteady (K.faults out.old) (K.faults out.new) → IsDoneOrWanting result.status }
+{
+    match run_made(alloc, n, gate) {
+        Ok((config, output)) => write_output(alloc, &config, output, true, out),
         Err(status) => Ran {
             status,
             output: None,
@@ -82,8 +134,9 @@ fn run_and_write<S: Source, K: Sink, G: Gate>(
 }
 
 /// Does what the words of a command line ask for. `run` reads the input to its end, runs its script and writes a line
-/// of JSON for each request and each searcher. `check` reads the input to its end and writes the counts of its script.
-/// `make N` reads nothing and writes the generator's script of N documents.
+/// of JSON for each request and each searcher; `run --summary` writes the summary of these lines. `check` reads the input
+/// to its end and writes the counts of its script. `make N` reads nothing and writes the generator's script of N documents;
+/// `drill N` runs that script and writes its summary.
 ///
 /// The words are those after the program's name. Statuses are looked at in this order: Usage, ReadFault, TooLarge,
 /// BadConfig, BadLine, want of memory in the run, WriteFault; want of memory may also come earlier. Only Done and
@@ -111,7 +164,8 @@ pub fn run_top<S: Source, K: Sink, G: Gate>(
     ensures flushed { result.status ≡ Status.Done → IsFlushed (K.flushed out.old) (K.flushed out.new) }
 
     // Where the source tells its bytes, they explain the status: the run of an input that reads goes by one legal
-    // history of the registry, and is lawful; a check tells the counts of the script that the bytes read to.
+    // history of the registry, and is lawful; a check tells the counts of the script that the bytes read to. A drill tells
+    // such a run of the generator's script.
     ensures explained { ExplainsAll (command_of (map string_bytes words.now))
         (S.left input.old) (S.left input.new) result (K.held out.old) (K.held out.new) }
 
@@ -120,7 +174,7 @@ pub fn run_top<S: Source, K: Sink, G: Gate>(
         → IsSteady (S.faults input.old) (S.faults input.new)
         → IsSteady (K.faults out.old) (K.faults out.new)
         → IfSome (S.left input.old) (Completes result.status) }
-    ensures makes { is_make (command_of (map string_bytes words.now)) ≡ true
+    ensures makes { is_made (command_of (map string_bytes words.now)) ≡ true
         → IsSteady (K.faults out.old) (K.faults out.new) → IsDoneOrWanting result.status }
 {
     let Some(command) = read_words(words) else {
@@ -130,7 +184,7 @@ pub fn run_top<S: Source, K: Sink, G: Gate>(
         };
     };
     match command {
-        Command::Run => run_and_write(alloc, input, out, gate),
+        Command::Run { summary } => run_and_write(alloc, input, out, gate, summary),
         Command::Check => Ran {
             status: check_script(alloc, input, out),
             output: None,
@@ -139,5 +193,6 @@ pub fn run_top<S: Source, K: Sink, G: Gate>(
             status: make_script(alloc, count, out),
             output: None,
         },
+        Command::Drill(count) => drill(alloc, count, out, gate),
     }
 }

@@ -5,8 +5,11 @@ use Rattle.std.proofs.lemmas.Result.{IfOk-weaker}
 use Rattle.script_form.specs.declared.config.Config.{Config}
 use Rattle.script_form.specs.declared.script.Line.{Line}
 use Rattle.run_laws.specs.Rows as plain
-use Rattle.run_laws.specs.Calls.{Call, call_as}
-use Rattle.run_laws.specs.Lawful.{Lawful}
+use Rattle.run_laws.specs.Calls.{Call, call_as, calls_of}
+use Rattle.run_laws.specs.Lawful.{Ascends, Lawful}
+use Rattle.run_laws.specs.Notes.{TellNotes}
+use Rattle.field_schema.specs.declared.memory.NoMemory.{NoMemory}
+use Rattle.client_runner.specs.declared.rows.Output as rows
 use Rattle.client_runner.specs.declared.order.Turn.{Turn}
 use Rattle.client_runner.specs.Histories.{GoesByHistory}
 use Rattle.client_runner.specs.Outputs.{output_view}
@@ -101,19 +104,35 @@ loop-turn-preserved g c =
       ready = c.in_ok-step.ensures.ready config (100000 - (i + 1)) (subst (λ n. IsReady config n c.loop-turn.runner) one_less c.loop-turn.invariant.ready);
     }
 
+-- what the run gives, where all the requests of the script were served
+ends : (config : Config) (script : List Line) (calls : List Call) (st : Standing) (r : Result rows.Output NoMemory) → Served config calls st → Ascends (map (λ (l : Line). l.number) script) → IsPermutation (calls_of script) calls
+    → IfOk r (λ o. IsPermutation st.rows (output_view o).requests) → IfOk r (λ o. IsNonDecreasingBy (λ (x : plain.RequestRow). x.line) (output_view o).requests) → IfOk r (λ o. (output_view o).searchers ≡ searchers_of st)
+    → IfOk r (λ o. GoesByHistory config script (output_view o) × TellNotes config script (output_view o))
+ends config script calls st r all numbers same moved sorted searchers =
+    all_ok r (λ o. IsPermutation st.rows (output_view o).requests) (λ o. IsNonDecreasingBy (λ (x : plain.RequestRow). x.line) (output_view o).requests) (λ o. (output_view o).searchers ≡ searchers_of st)
+    (λ o. GoesByHistory config script (output_view o) × TellNotes config script (output_view o))
+    (λ o m s t. ended config script calls st (output_view o) all numbers same m s t)
+    moved sorted searchers
+
 pub returns-clause-agrees : goal.returns-clause-agrees
 returns-clause-agrees g c =
-    let config = c.args.config.now in
-    let script = c.args.script.now in
     let items = c.deref-turn-items.result.now in
-    let st = standing c.loop-turn.runner in
-    let known : AreServed c.args.script.now c.deref-turn-items.result.now = are_served c.args.script.now c.get.result.now c.in_ok-turns.turns.items c.deref-turn-items.result.now
+    let known : AreServed c.args.script.now items = are_served c.args.script.now c.get.result.now c.in_ok-turns.turns.items items
     c.get.ensures c.deref-turn-items.ensures.value c.requires.lines c.requires.clients c.in_ok-turns.ensures.same c.in_ok-turns.ensures.rising in
-    let all : Served config (map (call_at script) items) st = subst (λ (ts : List Turn). Served config (map (call_at script) ts) st) (take_all c.loop-turn.turn-index items c.loop-turn-test.false) c.loop-turn.invariant.served in
-    all_ok c.finish.result (λ o. IsPermutation st.rows (output_view o).requests) (λ o. IsNonDecreasingBy (λ (r : plain.RequestRow). r.line) (output_view o).requests) (λ o. (output_view o).searchers ≡ searchers_of st)
-    (λ o. GoesByHistory config script (output_view o))
-    (λ o moved sorted searchers. ended config script (map (call_at script) items) st (output_view o) all c.requires.numbers known.calls moved sorted searchers)
-    c.finish.ensures.rows c.finish.ensures.sorted c.finish.ensures.searchers
+    let all : Served c.args.config.now (map (call_at c.args.script.now) items) (standing c.loop-turn.runner) =
+    subst (λ (ts : List Turn). Served c.args.config.now (map (call_at c.args.script.now) ts) (standing c.loop-turn.runner)) (take_all c.loop-turn.turn-index items c.loop-turn-test.false) c.loop-turn.invariant.served in
+    IfOk-weaker c.finish.result (λ o. GoesByHistory c.args.config.now c.args.script.now (output_view o) × TellNotes c.args.config.now c.args.script.now (output_view o)) (λ o. GoesByHistory c.args.config.now c.args.script.now (output_view o)) (λ o both. both.0)
+    (ends c.args.config.now c.args.script.now (map (call_at c.args.script.now) items) (standing c.loop-turn.runner) c.finish.result all c.requires.numbers known.calls c.finish.ensures.rows c.finish.ensures.sorted c.finish.ensures.searchers)
+
+pub returns-clause-notes : goal.returns-clause-notes
+returns-clause-notes g c =
+    let items = c.deref-turn-items.result.now in
+    let known : AreServed c.args.script.now items = are_served c.args.script.now c.get.result.now c.in_ok-turns.turns.items items
+    c.get.ensures c.deref-turn-items.ensures.value c.requires.lines c.requires.clients c.in_ok-turns.ensures.same c.in_ok-turns.ensures.rising in
+    let all : Served c.args.config.now (map (call_at c.args.script.now) items) (standing c.loop-turn.runner) =
+    subst (λ (ts : List Turn). Served c.args.config.now (map (call_at c.args.script.now) ts) (standing c.loop-turn.runner)) (take_all c.loop-turn.turn-index items c.loop-turn-test.false) c.loop-turn.invariant.served in
+    IfOk-weaker c.finish.result (λ o. GoesByHistory c.args.config.now c.args.script.now (output_view o) × TellNotes c.args.config.now c.args.script.now (output_view o)) (λ o. TellNotes c.args.config.now c.args.script.now (output_view o)) (λ o both. both.1)
+    (ends c.args.config.now c.args.script.now (map (call_at c.args.script.now) items) (standing c.loop-turn.runner) c.finish.result all c.requires.numbers known.calls c.finish.ensures.rows c.finish.ensures.sorted c.finish.ensures.searchers)
 
 pub returns-clause-lawful : goal.returns-clause-lawful
 returns-clause-lawful g c =

@@ -1,5 +1,4 @@
 use Rattle.std.proofs.Common.{◌≡◌, map, take}
-use Rattle.query_tree.specs.declared.query.Query.{Query}
 use Rattle.request_form.specs.declared.request.Filter.{Filter}
 use Rattle.client_runner.proofs.serve.queries.Given as goal
 

@@ -2,7 +2,7 @@ use Rattle.std.proofs.Common.{arith}
 use Rattle.script_form.specs.Lines.{script_lines}
 use Rattle.script_form.specs.ReadScript.{most_clients}
 use Rattle.script_form.proofs.ScriptRanges.{script_is}
-use Rattle.solr_cli.proofs.Inputs.{numbers_ascend, some_warming, within_lines}
+use Rattle.client_runner.proofs.Inputs.{numbers_ascend, some_warming, within_lines}
 use Rattle.solr_cli.proofs.answer.answer.Goals as goal
 
 pub run_script-requires-clause-warming : goal.run_script-requires-clause-warming

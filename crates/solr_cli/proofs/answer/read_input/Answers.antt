@@ -1,6 +1,6 @@
 use Rattle.std.proofs.Common.{sym, ◌∙◌, ℕ, List, length, take, drop, ◌-◌, ◌≤◌, length-drop, length-take, arith}
 use Rattle.script_form.specs.Lines.{most_input}
-use Rattle.solr_cli.proofs.Inputs.{within_input}
+use Rattle.client_runner.proofs.Inputs.{within_input}
 use Rattle.solr_cli.proofs.answer.read_input.Goals as goal
 
 -- what stands behind a place is no longer than the whole

@@ -12,7 +12,8 @@ use Rattle.search_model.specs.Answer.{Asked}
 use Rattle.run_laws.specs.CallReadings.{asked_by, defaults_of, query_of}
 use Rattle.run_history.specs.Tellings.{an_answer}
 use Rattle.client_runner.specs.Standings.{standing}
-use Rattle.client_runner.specs.Views.{request_view}
+use Rattle.run_laws.specs.Bounds.{is_query}
+use Rattle.client_runner.specs.Views.{request_view, verb_view}
 use Rattle.client_runner.proofs.Answered.{answered_follows, refusal_answers, wants_query}
 use Rattle.client_runner.proofs.runner.Runner.query.Goals as goal
 
@@ -39,8 +40,10 @@ returns-in-Err-clause-ok c =
 pub returns-clause-ok : goal.returns-clause-ok
 returns-clause-ok c =
     answered_follows c.args.config.now c.args.head c.args.body.now (standing c.args.self.now) c.in_ok-reply.reply (request_view c.row.result)
-    (asked_by c.in-Ok.request) c.args.self.now.current.generation c.acquire-ticket.result (standing c.acquire-ticket.new.self)
-    c.row.ensures refl c.acquire-ticket.ensures.ticket c.in_ok-reply.ensures
+    (asked_by c.in-Ok.request) c.in-Ok.request c.args.self.now.current.generation c.acquire-ticket.result (standing c.acquire-ticket.new.self)
+    c.row.ensures refl c.acquire-ticket.ensures.ticket c.in_ok-reply.ensures.shown c.in_ok-reply.ensures.notes
+    (ap (λ v. is_query (verb_view v)) c.requires.verb)
+    (ap (λ d. request_of c.args.config.now.schema.list d (params_of c.args.body.now)) (sym c.defaults.ensures) ∙ c.in-Ok.ensures.request)
     (wants_query c.args.config.now c.args.head c.args.body.now c.requires.verb ∙ by_defaults c.args.config.now c.args.body.now c.defaults.result c.defaults.ensures
     ∙ ap (λ r. result_map_both an_answer (λ m. m) (query_told r)) c.in-Ok.ensures.request)
     c.acquire-ticket.ensures.acquired

@@ -26,7 +26,7 @@ returns-clause-follows c =
           (told_too (standing c.answer.new.self) (request_view w.row-row.result)) (told_too (standing c.answer.new.self) (request_view c.match-answer.row))
           (sym w.in-Err.ensures.err) (ap (λ (r : RequestRow). told_too (standing c.answer.new.self) (request_view r)) w.row-is)
           (no_memory_follows c.args.config.now c.args.head c.args.body.now (standing c.answer.new.self) w.in_ok-no_memory_reply-in-Err.field-0 (request_view w.row-row.result)
-          w.row-row.ensures w.in_ok-no_memory_reply-in-Err.ensures)
+          w.row-row.ensures w.in_ok-no_memory_reply-in-Err.ensures.shown w.in_ok-no_memory_reply-in-Err.ensures.notes)
     ] in
     follows_at c.args.config.now (call_of c.args.head c.args.body.now) (standing (record c.args.self.now { rows = c.reserve.new.self })) (standing c.args.self.now)
     (told_too (standing c.answer.new.self) (request_view c.match-answer.row)) (standing (record c.answer.new.self { rows = c.push.new.self })) (sym reserved) pushed followed

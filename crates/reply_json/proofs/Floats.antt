@@ -16,6 +16,10 @@ use Rattle.field_schema.specs.Schema.{Fields}
 use Rattle.doc_model.specs.Document.{Document}
 use Rattle.doc_model.specs.DocJson.{value_data, values_data, first_data, field_data, is_shown, doc_members, doc_data}
 use Rattle.search_model.specs.Reply.{docs_items, found_object}
+use Rattle.std.specs.Arc.{arc_value}
+use Rattle.reply_json.specs.Answers.{answer_data}
+use Rattle.reply_json.specs.declared.replies.Answer.{Answer}
+use Rattle.reply_json.specs.declared.replies.Answer.TheVariants.{Found, Accepted, BadDoc, BadRequest, NoMemory}
 
 or_false : (a b : Bool) → a ≡ false → b ≡ false → (a || b) ≡ false
 or_false a b p q = ap (λ x. x || b) p ∙ q
@@ -67,9 +71,17 @@ whole_members l (f ∷ fs) (ks ∷ d) =
       | false ↦ whole_members l fs d
     ]
 
-pub whole_docs : (s : Fields) (l : FieldList) (ds : List Document) → has_float (docs_items s l ds) ≡ false
+whole_docs : (s : Fields) (l : FieldList) (ds : List Document) → has_float (docs_items s l ds) ≡ false
 whole_docs s l [] = refl
 whole_docs s l (d ∷ ds) = or_false (members_have_float (doc_members l s.list d.values)) (items_have_float (items_of (map (doc_data s l) ds))) (whole_members l s.list d.values) (whole_docs s l ds)
 
-pub whole_found : (docs : Data) (n start : ℕ) → has_float docs ≡ false → has_float (found_object docs n start) ≡ false
+whole_found : (docs : Data) (n start : ℕ) → has_float docs ≡ false → has_float (found_object docs n start) ≡ false
 whole_found docs n start h = rw h
+
+-- no reply has one
+pub whole_answer : (s : Fields) (l : FieldList) (a : Answer) → has_float (answer_data s l a) ≡ false
+whole_answer s l (Found found start docs) = whole_found (docs_items s l (map arc_value docs.items)) found start (whole_docs s l (map arc_value docs.items))
+whole_answer s l Accepted = refl
+whole_answer s l (BadDoc fault) = refl
+whole_answer s l (BadRequest fault) = refl
+whole_answer s l NoMemory = refl

@@ -2,7 +2,7 @@ use Rattle.std.proofs.Common.{◌≡◌, map, take}
 use Rattle.std.specs.Arc.{arc_value}
 use Rattle.serde_json.specs.View.{view}
 use Rattle.doc_model.specs.DocJson.{doc_data}
-use Rattle.client_runner.proofs.reply.docs_value.Given as goal
+use Rattle.reply_json.proofs.replies.docs_value.Given as goal
 
 -- the values so far are those of the documents so far
 abbrev pub invariant-loop-doc : goal.invariant-loop-doc
