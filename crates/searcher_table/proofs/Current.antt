@@ -64,6 +64,7 @@ module _ {W U X L : Type 0} (p : Plan W) (log : List (Entry U X L)) (words : Lis
         below = (let a = i.slot in omega arith);
         count = ap s.acquired g ∙ sym c;
         some = (let a = i.least in omega arith);
+        few = (let a = i.count in let b = two.sizes.budget in omega arith);
       })
       two.current
 

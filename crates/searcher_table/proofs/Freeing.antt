@@ -49,6 +49,10 @@ module _ {U X L : Type 0} where
   none_own c out [] named = refl
   none_own c out (e ∷ es) named = ap (λ b. cond b (e ∷ mine c es) (mine c es)) (named_not c out (caller_of e) named.0) ∙ none_own c out es named.1
 
+  -- the registrar pins nothing
+  pub nothing_pinned : {W : Type 0} (p : Plan W) (log : List (Entry U X L)) → AllByRecursion NamesCaller log → (state_of (limits p) log).pins 0 ≡ None
+  nothing_pinned p log named = pins_own (limits p) 0 log ∙ ap (pinned 0) (none_own 0 (inl refl) log named)
+
   -- nobody pins a generation that was released as often as acquired
   pub nobody_pins : {W : Type 0} (p : Plan W) (log : List (Entry U X L)) (g : ℕ) → Legal (limits p) log → AllByRecursion NamesCaller log → released log g ≡ (state_of (limits p) log).acquired g → (c : ℕ) → (state_of (limits p) log).pins c ≢ Some g
   nobody_pins p log g legal named drained c pins =

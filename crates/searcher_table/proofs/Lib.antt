@@ -31,3 +31,6 @@ pub mod Beginning
 pub mod Deal
 pub mod Row
 pub mod TakeBack
+pub mod Ending
+pub mod Settling
+pub mod Ended

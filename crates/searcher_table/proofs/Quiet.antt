@@ -11,17 +11,18 @@ use Rattle.registry_machine.proofs.Runs.{state_joined}
 use Rattle.searcher_table.specs.Views.{HasNoPlaceSince}
 use Rattle.searcher_table.proofs.Frame.{all_joined}
 
--- the same generations were opened and are warming, and a slot that was open for none still is
+-- the same generations were opened, are warming and current, and a slot that was open for none still is
 pub record HasSameOpenings (s t : State) : Type 0 where
   pub last : t.last_opened ≡ s.last_opened
   pub warming : t.warming ≡ s.warming
+  pub current : t.current ≡ s.current
   pub free : (slot : ℕ) → s.slots slot ≡ None → t.slots slot ≡ None
 
 pub same_trans : (s t u : State) → HasSameOpenings s t → HasSameOpenings t u → HasSameOpenings s u
-same_trans s t u a b = record { last = b.last ∙ a.last; warming = b.warming ∙ a.warming; free = λ slot e. b.free slot (a.free slot e) }
+same_trans s t u a b = record { last = b.last ∙ a.last; warming = b.warming ∙ a.warming; current = b.current ∙ a.current; free = λ slot e. b.free slot (a.free slot e) }
 
 pub same_openings : (s t : State) → t ≡ s → HasSameOpenings s t
-same_openings s t same = subst (HasSameOpenings s) (sym same) record { last = refl; warming = refl; free = λ _ e. e }
+same_openings s t same = subst (HasSameOpenings s) (sym same) record { last = refl; warming = refl; current = refl; free = λ _ e. e }
 
 module _ {U X L : Type 0} where
   -- entries without a place are none where there are none
@@ -36,12 +37,13 @@ module _ {U X L : Type 0} where
   }
 
   pub quiet_step : (s : State) (e : Entry U X L) → has_place e ≡ false → HasSameOpenings s (after s e)
-  quiet_step s (Acquire c g k) q = record { last = refl; warming = refl; free = λ _ e. e }
-  quiet_step s (NotYet c) q = record { last = refl; warming = refl; free = λ _ e. e }
-  quiet_step s (Release c g l) q = record { last = refl; warming = refl; free = λ _ e. e }
+  quiet_step s (Acquire c g k) q = record { last = refl; warming = refl; current = refl; free = λ _ e. e }
+  quiet_step s (NotYet c) q = record { last = refl; warming = refl; current = refl; free = λ _ e. e }
+  quiet_step s (Release c g l) q = record { last = refl; warming = refl; current = refl; free = λ _ e. e }
   quiet_step s (Free g) q = record {
     last = refl;
     warming = refl;
+    current = refl;
     free = λ slot e. subst (λ (o : Option ℕ). cond (is_some_of g o) None o ≡ None) (sym e) refl;
   }
   quiet_step s (Open c u g slot d) q = absurd (true_and_false true refl q)
@@ -52,7 +54,7 @@ module _ {U X L : Type 0} where
   quiet_step s (Superseded g by l) q = absurd (true_and_false true refl q)
 
   quiet_rest : (s : State) (es : List (Entry U X L)) → AllByRecursion (λ e. has_place e ≡ false) es → HasSameOpenings s (fold after s es)
-  quiet_rest s [] all = record { last = refl; warming = refl; free = λ _ e. e }
+  quiet_rest s [] all = record { last = refl; warming = refl; current = refl; free = λ _ e. e }
   quiet_rest s (e ∷ es) all = same_trans s (after s e) (fold after (after s e) es) (quiet_step s e all.0) (quiet_rest (after s e) es all.1)
 
   pub quiet_since : (l : Limits) (log seen : List (Entry U X L)) → HasNoPlaceSince log seen → HasSameOpenings (state_of l seen) (state_of l log)

@@ -18,7 +18,7 @@ use Rattle.searcher_table.specs.declared.board.Hand.{Hand}
 use Rattle.searcher_table.specs.declared.shown.Shown.{Ghosts}
 use Rattle.searcher_table.specs.declared.tokens.Announced.{Announced}
 use Rattle.searcher_table.specs.Words.{limits, last_generation}
-use Rattle.searcher_table.specs.Warming.{listed, last_in, warming_in}
+use Rattle.searcher_table.specs.Warming.{listed, number_of, last_in, current_in, warming_in}
 use Rattle.searcher_table.specs.Views.{StartsWith, HasNoPlaceSince}
 use Rattle.searcher_table.specs.Steps.{opening_of, answer_of, joined, Covers, HasExecuted}
 use Rattle.searcher_table.specs.Registrars.{plan_of, seen_of, answer_to}
@@ -82,15 +82,22 @@ module _ {D U W X L : Type 0} where
         state = ap (state_of (limits (plan_of r))) n.seen ∙ state_next (limits (plan_of r)) log e;
       }
 
+  pub executed_log : (r : Registrar D U W X L) (k other : Known W U X L) (me new : Me (Cell D U) (Known W U X L)) (e : Entry U X L) (task : Task) (fresh : Option Fresh) (g : Goes r k) (is : me.0 ≡ joined k other) (x : HasExecuted e task fresh me new)
+      → (executed r k other me new e task fresh g is x).log ≡ x.log
+  unfolding executed
+  executed_log r k other me new e task fresh g is x = refl
+
   -- what the registrar keeps of openings is true of a history with the same ones
   pub record Mirrors (r : Registrar D U W X L) (new : List (Entry U X L)) : Type 0 where
     pub last : r.last ≡ last_in (plan_of r) new
     pub warming : listed r.warming ≡ warming_in (plan_of r) new
+    pub current : r.current ≡ current_in (plan_of r) new
 
   pub mirrors : (r : Registrar D U W X L) (new : List (Entry U X L)) → HasSameOpenings (state_of (limits (plan_of r)) (seen_of r)) (state_of (limits (plan_of r)) new) → Mirrors r new
   mirrors r new o = record {
     last = r.last_is ∙ sym o.last;
     warming = r.warming_are ∙ sym o.warming;
+    current = r.current_is ∙ sym (ap number_of o.current);
   }
 
   -- an entry that opens and ends nothing
@@ -105,12 +112,14 @@ module _ {D U W X L : Type 0} where
   pub record HasOneMore (r : Registrar D U W X L) (new : List (Entry U X L)) : Type 0 where
     pub last : r.last + 1 ≡ last_in (plan_of r) new
     pub warming : listed r.warming ++ (r.last + 1) ∷ [] ≡ warming_in (plan_of r) new
+    pub current : r.current ≡ current_in (plan_of r) new
 
   pub opened_mirrors : (r : Registrar D U W X L) (other : Known W U X L) (new : Me (Cell D U) (Known W U X L)) (h : Hand U) (slot : ℕ) (shown : X) (task : Task) (fresh : Option Fresh) → HasEntered r other new (opening_of (plan_of r) (seen_of r) h slot shown) task fresh
       → HasOneMore r new.0.seen
   opened_mirrors r other new h slot shown task fresh x = record {
     last = ap (λ n. n + 1) r.last_is ∙ sym (ap (λ (z : State). z.last_opened) x.state);
     warming = (λ i. (r.warming_are ∙ sym x.openings.warming) i ++ (r.last_is i + 1) ∷ []) ∙ sym (ap (λ (z : State). z.warming) x.state);
+    current = r.current_is ∙ sym (ap (λ (z : State). number_of z.current) x.state ∙ ap number_of x.openings.current);
   }
 
   -- the registrar has seen a history with no place more

@@ -3,9 +3,9 @@ use Rattle.std.proofs.Common.{◌≡◌, ◌⊎◌, ℕ, ◌+◌, ◌≤◌, ◌
 use Rattle.std.proofs.lemmas.Option.{same_Some, none-some}
 use Rattle.registry_machine.specs.declared.entry.Entry.{Entry}
 use Rattle.registry_machine.specs.declared.entry.Entry.TheVariants.{Open, TooMany, GenerationsSpent, Update, Finish, Superseded, Acquire, NotYet, Release, Free}
-use Rattle.registry_machine.specs.Machine.{Limits, State, start, is_some_of, after}
+use Rattle.registry_machine.specs.Machine.{Limits, State, start, is_in, is_some_of, after}
 use Rattle.registry_machine.specs.Legal.{IsAllowed, LegalFrom, Legal, state_of}
-use Rattle.registry_machine.proofs.Lists.{test_same}
+use Rattle.registry_machine.proofs.Lists.{true_and_false, test_same, other_test, in_last, in_kept}
 use Rattle.registry_machine.proofs.Runs.{split, state_joined}
 use Rattle.registry_machine.proofs.Steps.{Sound, sound_start, sound_kept}
 use Rattle.registry_machine.proofs.Slots.{HasSlot, KeepsSlots, HasOnly, slots_start, slots_kept, only_kept}
@@ -32,6 +32,10 @@ at_free x g (Some y) h = by_test (y == x) h
     by_test : (b : Bool) → cond b None (Some y) ≡ Some g → ◌≡◌ {A = Option ℕ} (Some y) (Some g)
     by_test true h = absurd (none-some g h)
     by_test false h = h
+
+-- what is warming was never acquired
+abbrev NoneAcquired : State → Type 0
+NoneAcquired s = (g : ℕ) → is_in g s.warming ≡ true → s.acquired g ≡ 0
 
 module _ {U X L : Type 0} (l : Limits) where
   -- what each allowed entry keeps lasts over a run
@@ -77,6 +81,22 @@ module _ {U X L : Type 0} (l : Limits) where
     one = λ a b g i j. absurd (none-some g i);
     last = omega arith;
   }
+
+  none_kept : (s : State) (e : Entry U X L) → IsAllowed l s e → Sound l s → NoneAcquired s → NoneAcquired (after s e)
+  none_kept s (Open c u x slot d) p h n = λ g i. ⊎_elim (λ (k : is_in g s.warming ≡ true). n g k) (λ (k : g ≡ x). h.never_above g (let a = p.next in omega arith)) (in_last g x s.warming i)
+  none_kept s (Finish x list) p h n = λ g i. n g (in_kept g x s.warming i).0
+  none_kept s (Superseded x by list) p h n = λ g i. n g (in_kept g x s.warming i).0
+  none_kept s (Acquire c x k) p h n = λ g i. ap (λ b. cond b (s.acquired g + 1) (s.acquired g))
+      (other_test g x (λ same. true_and_false (is_in x s.warming) (ap (λ y. is_in y s.warming) (sym same) ∙ i) (h.current_opened x p.current).2)) ∙ n g i
+  none_kept s (Release c x list) p h n = λ g i. n g i
+  none_kept s (TooMany c u gs) p h n = λ g i. n g i
+  none_kept s (GenerationsSpent c u) p h n = λ g i. n g i
+  none_kept s (Update c u) p h n = λ g i. n g i
+  none_kept s (NotYet c) p h n = λ g i. n g i
+  none_kept s (Free x) p h n = λ g i. n g i
+
+  pub unacquired : (log : List (Entry U X L)) (g : ℕ) → Legal l log → is_in g (state_of l log).warming ≡ true → (state_of l log).acquired g ≡ 0
+  unacquired log g legal is = (run_keeps (λ s. Sound l s × NoneAcquired s) (λ s e may h. (sound_kept l s e may h.0, none_kept s e may h.0 h.1)) (start l) log legal (sound_start l, λ h i. refl)).1 g is
 
   pub sound : (log : List (Entry U X L)) → Legal l log → Sound l (state_of l log)
   sound log legal = run_keeps (Sound l) (sound_kept l) (start l) log legal (sound_start l)

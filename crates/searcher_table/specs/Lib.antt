@@ -12,3 +12,4 @@ pub mod Pins
 pub mod Registrars
 pub mod Openings
 pub mod Making
+pub mod Publishing

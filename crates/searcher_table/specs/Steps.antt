@@ -1,11 +1,11 @@
 -- What each kind of step tells the seat that makes it, and how views are split and joined.
-use Rattle.std.specs.Prelude.{◌≡◌, ◌≢◌, ◌⊎◌, ℕ, ◌+◌, ◌<◌, ◌≤◌, ◌/◌, ◌%◌, ◌==◌, if◌then◌else◌, true, false, List, [], ◌∷◌, ◌++◌, length, Option, Some, None}
+use Rattle.std.specs.Prelude.{◌≡◌, ◌≢◌, ◌⊎◌, ℕ, ◌+◌, ◌<◌, ◌≤◌, ◌/◌, ◌%◌, ◌==◌, if◌then◌else◌, true, false, List, [], ◌∷◌, ◌++◌, length, count_by, Option, Some, None}
 use Rattle.std.specs.Int.{trailing_zeros}
 use mir.Syntax.{w64}
 use mathlib.Core.Option.{some}
 use Rattle.atomic_table.specs.Table.{Me, Step}
 use Rattle.registry_machine.specs.declared.entry.Entry.{Entry}
-use Rattle.registry_machine.specs.declared.entry.Entry.TheVariants.{Open, TooMany, GenerationsSpent, Update, Acquire, NotYet, Release, Free}
+use Rattle.registry_machine.specs.declared.entry.Entry.TheVariants.{Open, TooMany, GenerationsSpent, Update, Finish, Superseded, Acquire, NotYet, Release, Free}
 use Rattle.registry_machine.specs.Machine.{Limits}
 use Rattle.registry_machine.specs.Legal.{Legal, state_of}
 use Rattle.registry_machine.specs.Callers.{mine}
@@ -18,15 +18,23 @@ use Rattle.searcher_table.specs.declared.board.Plan.{Plan}
 use Rattle.searcher_table.specs.declared.board.Hand.{Hand}
 use Rattle.searcher_table.specs.declared.board.Known.{Known}
 use Rattle.searcher_table.specs.declared.board.Task.{Task}
-use Rattle.searcher_table.specs.declared.board.Task.TheVariants.{Idle, Found, Claimed, Cleared, Duty}
+use Rattle.searcher_table.specs.declared.board.Task.TheVariants.{Idle, Found, Claimed, Cleared, Unsettled, Duty}
 use Rattle.searcher_table.specs.declared.board.Fresh.{Fresh}
 use Rattle.searcher_table.specs.Words.{slot_word, limits}
-use Rattle.searcher_table.specs.Counts.{pinned}
+use Rattle.searcher_table.specs.Counts.{releases, pinned}
 use Rattle.searcher_table.specs.Views.{StartsWith, HasNoPlaceSince, GoesOn}
 
 -- what is begun by the release that found this word of a slot: the slot is to be freed where its generation is settled and this was the last release
 abbrev pub duty_by : ℕ → ℕ → ℕ → Task
 duty_by word slot g = if word / 4294967296 == word % 4294967296 + 2 then Duty slot g else Idle
+
+-- what the publication that found this current word has begun: what was current is to be settled
+abbrev pub left_by : ℕ → Task
+left_by word = if word / 549755813888 == 0 then Idle else Unsettled (word / 4294967296 % 128) (word / 549755813888) (word % 4294967296)
+
+-- and the settling that found so many releases: the slot is to be freed where there were as many acquires
+abbrev pub settled_by : ℕ → ℕ → ℕ → ℕ → Task
+settled_by found slot g total = if found == total then Duty slot g else Idle
 
 module _ {U X L : Type 0} where
   -- the current word tells that nothing is current, or the current generation, its slot and its acquires
@@ -40,6 +48,7 @@ module _ {U X L : Type 0} where
     pub below : word / 4294967296 % 128 < 70
     pub count : (state_of l log).acquired (word / 549755813888) ≡ word % 4294967296
     pub some : 549755813888 ≤ word
+    pub few : word % 4294967296 < 4294967295
 
   abbrev pub TellsCurrent : Limits → List (Entry U X L) → ℕ → Type 0
   TellsCurrent l log word = TellsNone l log word ⊎ TellsGeneration l log word
@@ -233,3 +242,26 @@ module _ {W U X L : Type 0} where
 
     abbrev pub Wiped : Step (Cell D U) → Me (Cell D U) (Known W U X L) → ℕ → Me (Cell D U) (Known W U X L) → Type 0
     Wiped step before stored after = (slot : ℕ) → before.0.task ≡ Claimed slot → HasWiped slot before after
+
+    -- ---- the end of a warming
+
+    -- the warming generation is current, and what was current is to be settled
+    pub record HasPublished (f : Fresh) (found : ℕ) (before new : Me (Cell D U) (Known W U X L)) : Type 0 where
+      pub executed : HasExecuted (Finish f.generation []) (left_by found) None before new
+      pub tells : (p : Plan W) → before.0.plan ≡ Some p → TellsCurrent (limits p) executed.log found
+
+    abbrev pub Published : Step (Cell D U) → Me (Cell D U) (Known W U X L) → ℕ → Me (Cell D U) (Known W U X L) → Type 0
+    Published step before found after = (f : Fresh) → before.0.fresh ≡ Some f → HasPublished f found before after
+
+    -- a greater one is current, and the slot of the one that was warming is to be settled
+    abbrev pub Superseding : Step (Cell D U) → Me (Cell D U) (Known W U X L) → ℕ → Me (Cell D U) (Known W U X L) → Type 0
+    Superseding step before stored after = (f : Fresh) (p : Plan W) (by : ℕ) → before.0.fresh ≡ Some f → before.0.plan ≡ Some p → (state_of (limits p) before.0.seen).current ≡ Some by
+        → HasExecuted (Superseded f.generation by []) (Unsettled f.slot f.generation 0) None before after
+
+    -- the acquires of the generation are told to its slot's word, which had counted its releases
+    pub record HasTold (slot g total found : ℕ) (before new : Me (Cell D U) (Known W U X L)) : Type 0 where
+      pub turned : HasTurned (settled_by found slot g total) before.0.fresh before new
+      pub released : count_by (releases g) turned.log ≡ found
+
+    abbrev pub Settled : Step (Cell D U) → Me (Cell D U) (Known W U X L) → ℕ → Me (Cell D U) (Known W U X L) → Type 0
+    Settled step before found after = (slot g total : ℕ) → before.0.task ≡ Unsettled slot g total → HasTold slot g total found before after

@@ -7,7 +7,7 @@ pub struct Gens {
 }
 
 impl Gens {
-    ghost use Rattle.std.specs.Prelude.{◌≡◌, ◌<◌, ◌++◌, ◌∷◌, [], length};
+    ghost use Rattle.std.specs.Prelude.{◌≡◌, ◌<◌, ◌++◌, ◌∷◌, ◌==◌, [], length, filter, not};
     ghost use Rattle.searcher_table.specs.Warming.{listed};
 
     // None.
@@ -43,5 +43,12 @@ impl Gens {
         ensures { listed self.new ≡ listed self.old ++ generation ∷ [] }
     {
         self.list.push(generation);
+    }
+
+    // All but this one.
+    pub(crate) fn remove(&mut self, generation: u32)
+        ensures { listed self.new ≡ filter (λ g. not (g == generation)) (listed self.old) }
+    {
+        self.list.retain(|g| *g != generation);
     }
 }

@@ -12,7 +12,9 @@ mod making;
 mod pass;
 mod pin;
 mod plays;
+mod publish;
 mod registrar;
+mod settle;
 mod shown;
 mod tokens;
 
@@ -23,7 +25,7 @@ pub use pass::Pass;
 pub use pin::{AcquireRefusal, Pin};
 pub use registrar::Registrar;
 pub use shown::Shown;
-pub use tokens::{Announced, OpenRefusal, Opening, Sighting};
+pub use tokens::{Announced, OpenRefusal, Opening, Published, Sighting};
 
 /// Memory was wanting.
 #[derive(Clone, Copy, Debug, PartialEq, Eq)]

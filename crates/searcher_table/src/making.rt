@@ -114,6 +114,7 @@ fn links<D: Shown, U: Drop>(
     count: u32,
 ) -> Result<Vec<Link<D, U>>, NoMemory>
     ensures count { IfOk result (λ made. length made.items ≡ count) }
+    ensures room { IfOk result (λ made. vec_capacity made ≡ count) }
     ensures table { IfOk result (λ made. AreAt (arc_value table.now).shared.table_id made.items) }
 {
     let Ok(mut made) = Vec::with_capacity(alloc, count as usize) else {
@@ -160,6 +161,7 @@ impl<D: Shown, U: Drop> Registrar<D, U> {
             places: 0,
             max_warming: plan.max_warming,
             last: plan.first_generation - 1,
+            current: 0,
             warming: Gens::none(),
             spare,
             place,

@@ -1,6 +1,6 @@
 // The kinds of step, which are for the proofs alone.
 ghost use Rattle.searcher_table.specs.Steps.{Looked, Peeked, Announced, Withdrawn, Executed, kept_back, handed_out, keeps_others, dealt_out, joined, taken_back, spent};
-ghost use Rattle.searcher_table.specs.Steps.{Opened, Acquired, Released, Freed, Scanned, ScannedOn, Took, Wiped, still, told_of};
+ghost use Rattle.searcher_table.specs.Steps.{Opened, Acquired, Released, Freed, Scanned, ScannedOn, Took, Wiped, Published, Superseding, Settled, still, told_of};
 
 use crate::board::{Cell, Known};
 use crate::shown::Shown;
@@ -95,6 +95,27 @@ pub(crate) struct Wipe;
 
 impl<D: Shown, U> Play<Cell<D, U>, Known<D::Setting, U, D::Docs, D::Deed>> for Wipe {
     ghost then = { Wiped };
+}
+
+// A warming generation is current.
+pub(crate) struct Publish;
+
+impl<D: Shown, U> Play<Cell<D, U>, Known<D::Setting, U, D::Docs, D::Deed>> for Publish {
+    ghost then = { Published };
+}
+
+// A warming generation is given up, since a greater one is current.
+pub(crate) struct Supersede;
+
+impl<D: Shown, U> Play<Cell<D, U>, Known<D::Setting, U, D::Docs, D::Deed>> for Supersede {
+    ghost then = { Superseding };
+}
+
+// The word of a slot is told the acquires of its generation.
+pub(crate) struct Settle;
+
+impl<D: Shown, U> Play<Cell<D, U>, Known<D::Setting, U, D::Docs, D::Deed>> for Settle {
+    ghost then = { Settled };
 }
 
 // What was seen goes along to a seat of its own.

@@ -1,8 +1,8 @@
-ghost use Rattle.std.specs.Prelude.{◌≡◌, ◌+◌, ◌≤◌, true, [], Some, None, count_by, length};
+ghost use Rattle.std.specs.Prelude.{◌≡◌, ◌+◌, ◌≤◌, true, [], Some, None, count_by, length, vec_capacity};
 ghost use Rattle.std.specs.Arc.{arc_value};
 ghost use Rattle.registry_machine.specs.Entries.{has_place};
 ghost use Rattle.searcher_table.specs.Spares.{AreAt};
-ghost use Rattle.searcher_table.specs.Warming.{listed, last_in, warming_in};
+ghost use Rattle.searcher_table.specs.Warming.{listed, last_in, current_in, warming_in};
 ghost use Rattle.searcher_table.specs.declared.board.Task.TheVariants.{Idle};
 
 use crate::board::{
@@ -24,6 +24,8 @@ pub struct Registrar<D: Shown, U: Drop> {
     pub(crate) max_warming: u32,
     // The generation that was opened last.
     pub(crate) last: u32,
+    // The one that is current, or 0.
+    pub(crate) current: u32,
     // Those that are warming.
     pub(crate) warming: Gens,
     pub(crate) place: Place<D, U, D::Setting, D::Docs, D::Deed>,
@@ -40,8 +42,10 @@ pub struct Registrar<D: Shown, U: Drop> {
     ghost some: { 1 ≤ (arc_value table).shared.key.callers },
     ghost few_callers: { (arc_value table).shared.key.callers ≤ 64 },
     ghost last_is: { last ≡ last_in (arc_value table).shared.key place.me.0.seen },
+    ghost current_is: { current ≡ current_in (arc_value table).shared.key place.me.0.seen },
     ghost warming_are: { listed warming ≡ warming_in (arc_value table).shared.key place.me.0.seen },
     ghost spares: { AreAt place.table_id spare.items },
+    ghost held: { vec_capacity spare ≡ max_warming },
     ghost enough: { length spare.items + length (listed warming) ≡ max_warming },
     ghost within: { last ≤ 33554431 },
     ghost idle: { place.me.0.task ≡ Idle },

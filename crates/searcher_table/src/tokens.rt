@@ -38,6 +38,7 @@ pub struct Opening<D: Shown, U: Drop> {
     ghost sized: { seat.table_id.words ≡ 1168 },
     ghost warming: { seat.me.0.fresh ≡ Some (record { generation = generation; slot = slot }) },
     ghost below: { slot < 70 },
+    ghost within: { generation ≤ 33554431 },
     ghost empty_handed: { seat.me.0.hand ≡ None },
     ghost bare: { seat.me.1 ≡ [] },
 }
@@ -77,4 +78,19 @@ pub enum OpenRefusal {
     TooMany { place: u64, warming: Gens },
     /// There was room, and the last generation that there is had been opened.
     GenerationsSpent { place: u64 },
+}
+
+/// How a warming ended. Its entry has this place.
+#[derive(Clone, Copy, Drop, Debug, PartialEq, Eq)]
+pub enum Published {
+    /// The generation is current. If one was current before, it is told with the number of its acquires.
+    Registered {
+        place: u64,
+        settled: Option<(u32, u32)>,
+    },
+    /// A greater generation is current.
+    Superseded {
+        by: u32,
+        place: u64,
+    },
 }

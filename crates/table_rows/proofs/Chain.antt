@@ -41,6 +41,14 @@ module _ {A : Type 0} where
   never_empty : (xs ys : List A) (x : A) → xs ++ x ∷ ys ≡ [] → ⊥
   never_empty xs ys x e = let n = ap length e in let m = length-append xs (x ∷ ys) in omega arith
 
+module _ {U X L : Type 0} where
+  -- what a caller with nothing announced has after a step
+  still : (c : ℕ) (had has : List (Entry U X L)) (a b : Option (Asked U)) → a ≡ None → GoesOn c had a has b → (has ≡ had) × (b ≡ None)
+  still c had has a b none calls = ⊎_elim
+      (λ (x : IsStill c had a has b). (x.mine, x.announced ∙ none))
+      (λ (x : WasExecuted c had a has b). absurd (none-some x.asked (sym none ∙ x.announced)))
+      calls
+
 module _ {D U W X L : Type 0} where
   -- a step that sees no entry of the caller leaves its own entries
   pub same_own : (s t : Pass D U W X L) → HasSeenMore s t [] → mine_of t ≡ mine_of s
@@ -54,13 +62,6 @@ module _ {D U W X L : Type 0} where
       (λ (x : IsStill s.caller (mine_of s) (announced_of s) (mine_of t) (announced_of t)). x.announced ∙ none)
       (λ (x : WasExecuted s.caller (mine_of s) (announced_of s) (mine_of t) (announced_of t)). x.none)
       l.calls
-
-  -- what a caller with nothing announced has after a step
-  still : (c : ℕ) (had has : List (Entry U X L)) (a b : Option (Asked U)) → a ≡ None → GoesOn c had a has b → (has ≡ had) × (b ≡ None)
-  still c had has a b none calls = ⊎_elim
-      (λ (x : IsStill c had a has b). (x.mine, x.announced ∙ none))
-      (λ (x : WasExecuted c had a has b). absurd (none-some x.asked (sym none ∙ x.announced)))
-      calls
 
   -- an acquire and its release are two entries more, whether or not the release was the last one
   pub two_more : (s : Pass D U W X L) (pin : Pin D U W X L) (t : Pass D U W X L) → announced_of s ≡ None → HasAcquired s pin → HasReleased pin t → HasNothingOut s t × HasHeld s t pin.generation pin.ticket

@@ -29,6 +29,9 @@ invariant_of-self-clause-last_is g c = (has_seen c.args.self.now c.args.self.now
 pub invariant_of-self-clause-warming_are : goal.invariant_of-self-clause-warming_are
 invariant_of-self-clause-warming_are g c = (has_seen c.args.self.now c.args.self.now.place.me.0 c.load-word.new.seat.me.0 c.load-word.ensures.2.looked.log refl refl refl c.load-word.ensures.2.looked.covers (ap (λ m. m.0.seen) c.load-word.ensures.2.looked.after)).mirrors.warming
 
+pub invariant_of-self-clause-current_is : goal.invariant_of-self-clause-current_is
+invariant_of-self-clause-current_is g c = (has_seen c.args.self.now c.args.self.now.place.me.0 c.load-word.new.seat.me.0 c.load-word.ensures.2.looked.log refl refl refl c.load-word.ensures.2.looked.covers (ap (λ m. m.0.seen) c.load-word.ensures.2.looked.after)).mirrors.current
+
 pub invariant_of-self-clause-spares : goal.invariant_of-self-clause-spares
 invariant_of-self-clause-spares g c = subst (λ z. AreAt z c.args.self.now.spare.items) (sym c.load-word.ensures.0) c.args.self.now.spares
 

@@ -41,6 +41,9 @@ invariant_of-self-clause-last_is g c = (met c.args.self.now c.args.note.place.me
 pub invariant_of-self-clause-warming_are : goal.invariant_of-self-clause-warming_are
 invariant_of-self-clause-warming_are g c = (met c.args.self.now c.args.note.place.me.0 c.join_seat.new.seat.me c.load.new.seat.me c.load.ensures.2.log c.join_seat.ensures.2 c.load.ensures.2.covers (ap (λ m. m.0.seen) c.load.ensures.2.after)).mirrors.warming
 
+pub invariant_of-self-clause-current_is : goal.invariant_of-self-clause-current_is
+invariant_of-self-clause-current_is g c = (met c.args.self.now c.args.note.place.me.0 c.join_seat.new.seat.me c.load.new.seat.me c.load.ensures.2.log c.join_seat.ensures.2 c.load.ensures.2.covers (ap (λ m. m.0.seen) c.load.ensures.2.after)).mirrors.current
+
 pub invariant_of-self-clause-spares : goal.invariant_of-self-clause-spares
 invariant_of-self-clause-spares g c = subst (λ z. AreAt z c.args.self.now.spare.items) (sym (c.load.ensures.0 ∙ c.join_seat.ensures.0)) c.args.self.now.spares
 

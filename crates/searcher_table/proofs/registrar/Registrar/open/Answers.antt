@@ -7,7 +7,7 @@ use Rattle.registry_machine.specs.Legal.{Legal, state_of}
 use Rattle.searcher_table.specs.declared.board.Plan.{Plan}
 use Rattle.searcher_table.specs.declared.board.Hand.{Hand}
 use Rattle.searcher_table.specs.Words.{last_generation, limits}
-use Rattle.searcher_table.specs.Warming.{listed, last_in, warming_in}
+use Rattle.searcher_table.specs.Warming.{listed, last_in, current_in, warming_in}
 use Rattle.searcher_table.specs.Registrars.{plan_of, seen_of}
 use Rattle.searcher_table.proofs.Frame.{all_map, all_last}
 use Rattle.std.specs.Prelude.{slice_get}
@@ -112,6 +112,8 @@ invariant_of-self g c =
       few_callers = registrar.few_callers;
       last_is = m.last ∙ ap (λ z. last_in (plan_of registrar) z.0.seen) (sym e2.2);
       warming_are = c.add.ensures ∙ m.warming ∙ ap (λ z. warming_in (plan_of registrar) z.0.seen) (sym e2.2);
+      current_is = m.current ∙ ap (λ z. current_in (plan_of registrar) z.0.seen) (sym e2.2);
+      held = c.in-Some-pop.ensures.capacity ∙ registrar.held;
       spares = subst (λ z. AreAt z c.pop-2.new.self.items) (sym id) (λ i l at. registrar.spares i l (ap (λ ls. slice_get ls i) c.in-Some-pop.ensures.items ∙ got_before c.pop-2.new.self.items (c.in-Some-pop.link ∷ []) i l at));
       enough =
           let a = ap length c.add.ensures in
@@ -142,6 +144,7 @@ invariant_of-result g c =
       at_table = at ∙ sym (registrar.spares (length c.pop-2.new.self.items) c.in-Some-pop.link (ap (λ ls. slice_get ls (length c.pop-2.new.self.items)) c.in-Some-pop.ensures.items ∙ got_here c.pop-2.new.self.items c.in-Some-pop.link));
       sized = ap (λ z. z.words) at ∙ registrar.sized;
       warming = ap (λ m. m.0.fresh) e2.4 ∙ x.fresh_is ∙ ap (λ n. Some (record { generation = n + 1; slot = slot })) (sym registrar.last_is);
+      within = (let l = c.requires.may.left in let i = registrar.last_is in omega arith);
       below = (let b = f.free.below in let n = registrar.few_callers in let m = registrar.most in let k = registrar.few in omega arith);
       empty_handed = ap (λ m. m.0.hand) e2.4 ∙ x.hand;
       bare = ap (λ m. m.1) e2.4;
