@@ -42,15 +42,17 @@ fn check(alloc: Global, bytes: &[u8]) -> Result<Text, NoMemory> {
 
 // What a run writes, or its summary.
 fn run(alloc: Global, bytes: &[u8], summary: bool) -> Result<Text, NoMemory> {
-    let (config, script) = match read(alloc, bytes)? {
-        Input::Read(config, script) => (config, script),
-        Input::Refused(why) => return Ok(why),
-    };
-    let output = run_script(alloc, &config, &script, &OpenGate)?;
-    if summary {
-        summary_text(alloc, &output)
-    } else {
-        output_text(alloc, &config, &output)
+    let input = read(alloc, bytes)?;
+    match input {
+        Input::Read(config, script) => {
+            let output = run_script(alloc, &config, &script, &OpenGate)?;
+            if summary {
+                summary_text(alloc, &output)
+            } else {
+                output_text(alloc, &config, &output)
+            }
+        }
+        Input::Refused(why) => Ok(why),
     }
 }
 
