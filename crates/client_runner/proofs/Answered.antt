@@ -1,6 +1,7 @@
 -- What a request's row makes the run do.
 use Rattle.std.proofs.Common.{◌≡◌, ℕ, ◌+◌, ◌^◌, ◌<◌, ◌≤◌, List, [], ◌∷◌, ◌++◌, length, map, Bool, true, false, not, filter, cond, Option, Some, None, Result, Ok, Err, IfOk, OnOk, refl, sym, ap, ap₂, subst, ◌∙◌, inl, inr, arith, length-append, codes}
 use Rattle.std.specs.Prelude.{◌==◌, ◌&&◌}
+use Rattle.std.specs.Bool.{MatchBool}
 use Rattle.std.specs.Option.{option_map_or}
 use Rattle.std.specs.Result.{result_map_both}
 use Rattle.std.proofs.lemmas.List.{map-append}
@@ -19,8 +20,9 @@ use Rattle.run_laws.specs.Calls.{Call}
 use Rattle.run_laws.specs.CallReadings.{change_by, commit_of, defaults_of, query_of}
 use Rattle.run_laws.specs.Lawful.{Shows}
 use Rattle.run_laws.specs.Bounds.{is_query}
-use Rattle.run_laws.specs.Notes.{TellsNotes, noted, noted_by, not_noted}
+use Rattle.run_laws.specs.Notes.{AreNotedBy, IsNotedBy, TellsNotes, noted, not_noted}
 use Rattle.request_form.specs.Requests.{request_of}
+use Rattle.request_form.specs.declared.fault.RequestFault.{RequestFault}
 use Rattle.request_form.specs.declared.request.Request.{Request}
 use Rattle.run_history.specs.Tellings.{Wanted, an_update, a_searcher, an_answer, form_wants, wants}
 use Rattle.run_history.specs.Agreement.{RepliesIdly}
@@ -65,7 +67,7 @@ replies_no_memory c row (Err message) s = inr s
 
 -- it has none, where the request was refused or is no query
 notes_none : (c : Config) (call : Call) (row : RequestRow) → ((row.code == 0) && is_query call.verb) ≡ false → noted row ≡ not_noted → TellsNotes c (record { call = call; row = row })
-notes_none c call row e n = n ∙ sym (ap (λ b. cond b (noted_by (request_of c.schema.list (defaults_of c) (params_of call.body))) not_noted) e)
+notes_none c call row e n = subst (λ b. MatchBool b (AreNotedBy (request_of c.schema.list (defaults_of c) (params_of call.body)) row.docs (noted row)) (noted row ≡ not_noted)) (sym e) n
 
 -- a code that is not 0 is that of no answer
 refused_code : (k code : ℕ) (b : Bool) → code ≡ k → (k == 0) ≡ false → ((code == 0) && b) ≡ false
@@ -81,10 +83,11 @@ no_query code b e = ap (λ x. (code == 0) && x) e ∙ and_false (code == 0)
 
 -- a query that was answered has those of its request
 notes_answered : (c : Config) (call : Call) (row : RequestRow) (req : Request) → row.code ≡ 0 → is_query call.verb ≡ true
-    → request_of c.schema.list (defaults_of c) (params_of call.body) ≡ Ok req → noted row ≡ noted_by (Ok req) → TellsNotes c (record { call = call; row = row })
+    → request_of c.schema.list (defaults_of c) (params_of call.body) ≡ Ok req → IsNotedBy req row.docs (noted row) → TellsNotes c (record { call = call; row = row })
 notes_answered c call row req z q e n =
-    n ∙ ap noted_by (sym e)
-    ∙ sym (ap (λ b. cond b (noted_by (request_of c.schema.list (defaults_of c) (params_of call.body))) not_noted) (ap₂ (λ k b. (k == 0) && b) z q))
+    let read : Result Request RequestFault = request_of c.schema.list (defaults_of c) (params_of call.body) in
+    subst (λ b. MatchBool b (AreNotedBy read row.docs (noted row)) (noted row ≡ not_noted)) (sym (ap₂ (λ k b. (k == 0) && b) z q))
+    (subst (λ (x : Result Request RequestFault). AreNotedBy x row.docs (noted row)) (sym e) n)
 
 module _ (c : Config) (h : Head) (body : List ℕ) (st : Standing) (r : Reply) (row : RequestRow) where
   -- the request was refused
@@ -115,7 +118,7 @@ module _ (c : Config) (h : Head) (body : List ℕ) (st : Standing) (r : Reply) (
 
   -- a query was answered by the current searcher
   pub answered_follows : (asked : Asked) (req : Request) (generation ticket : ℕ) (new : Standing) → row ≡ shown_row h None (Some generation) (Some ticket) r → generation ≡ st.current.generation → ticket ≡ st.current.acquired
-      → Shown c (found asked (answer st.served asked)) r → noted_in r ≡ noted_by (Ok req) → is_query (verb_view h.verb) ≡ true → request_of c.schema.list (defaults_of c) (params_of body) ≡ Ok req
+      → Shown c (found asked (answer st.served asked)) r → IsNotedBy req r.docs (noted_in r) → is_query (verb_view h.verb) ≡ true → request_of c.schema.list (defaults_of c) (params_of body) ≡ Ok req
       → wants c (call_of h body) ≡ Ok (an_answer asked) → new ≡ acquired st → Follows c (call_of h body) st (told_too new row)
   answered_follows asked req generation ticket new e g k s notes q read w n =
       subst (λ (x : Standing). Follows c (call_of h body) st (told_too x row)) (sym n)

@@ -13,8 +13,10 @@ use Rattle.script_form.specs.declared.script.LineName.{LineName}
 use Rattle.script_form.specs.declared.script.ScriptRefusal.TheVariants as refusal
 use Rattle.script_form.specs.ReadConfig.{config_of}
 use Rattle.script_form.specs.ReadScript.{most_clients}
-use Rattle.script_form.specs.Ranges.{IsScript}
+use Rattle.script_form.specs.Ranges.{IsConfig, IsScript}
 use Rattle.script_form.proofs.Ranges.{config_is}
+use Rattle.searcher_core.specs.Shows.{AreSizes}
+use Rattle.client_runner.specs.Sizes.{sizes_of}
 
 first_false : (a b : Bool) → (a || b) ≡ false → a ≡ false
 first_false true b h = h
@@ -52,6 +54,12 @@ beyond_input input h = ap (λ b. b || lines_too_large (script_lines input)) (les
 -- at least one searcher may be warming
 pub some_warming : (input : List ℕ) (c : Config) → config_of input ≡ Ok c → 1 ≤ c.max_warming
 some_warming input c h = (config_is input c h).max_warming.0
+
+-- the caches' sizes are in their limits
+pub sizes_are : (input : List ℕ) (c : Config) → config_of input ≡ Ok c → AreSizes (sizes_of c)
+sizes_are input c h =
+    let is : IsConfig c = config_is input c h in
+    record { filters = is.filter_size; results = is.result_size; documents = is.document_size; window = is.window; most_docs = is.most_docs }
 
 -- ---- the script
 

@@ -10,6 +10,7 @@ mod rows;
 mod run;
 mod runner;
 mod serve;
+mod serving;
 mod summary;
 
 pub use laws::every_script_has_a_lawful_output;

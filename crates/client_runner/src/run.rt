@@ -2,12 +2,14 @@ ghost use Rattle.std.specs.Prelude.{◌≡◌, ◌<◌, ◌≤◌, IfOk, OnOk, l
 ghost use Rattle.std.specs.List.{All};
 ghost use Rattle.std.specs.List.Sorted.{IsNonDecreasingBy, IsPermutation};
 ghost use Rattle.script_form.specs.Ranges.{HasClient};
+ghost use Rattle.searcher_core.specs.Shows.{AreSizes};
 ghost use Rattle.run_laws.specs.Notes.{TellNotes};
 ghost use Rattle.run_laws.specs.Lawful.{Ascends, Lawful, is_acquired_first as acquired_first};
 ghost use Rattle.client_runner.specs.Histories.{GoesByHistory};
 ghost use Rattle.client_runner.specs.Outputs.{output_view};
 ghost use Rattle.client_runner.specs.Rooms.{IsReady, StaysReady};
 ghost use Rattle.client_runner.specs.Runs.{TakesLine};
+ghost use Rattle.client_runner.specs.Sizes.{sizes_of};
 ghost use Rattle.client_runner.specs.Standings.{searchers_of, standing};
 
 use crate::order::turns;
@@ -16,14 +18,16 @@ use crate::runner::{Head, Runner};
 use field_schema::NoMemory;
 use rt_edge::Gate;
 use script_form::{Config, Line, Script, What};
+use searcher_core::CacheSizes;
 use std::alloc::Global;
 
 impl Runner {
     // Serves the request of a line in its turn, if the line asks for something.
-    fn step(
+    fn step<G: Gate>(
         &mut self,
         alloc: Global,
         config: &Config,
+        gate: &G,
         phase: u32,
         line: &Line,
     ) -> Result<(), NoMemory>
@@ -45,7 +49,7 @@ impl Runner {
             line: line.number,
             verb,
         };
-        self.serve(alloc, config, head, body.get())
+        self.serve(alloc, config, gate, head, body.get())
     }
 
     // What the run gives: its rows in the order of the script, and its searchers.
@@ -70,6 +74,19 @@ impl Runner {
     }
 }
 
+// The sizes of each searcher's caches.
+fn sizes_of(config: &Config) -> CacheSizes
+    ensures { result ≡ sizes_of config.now }
+{
+    CacheSizes {
+        filters: config.filter_size,
+        results: config.result_size,
+        documents: config.document_size,
+        window: config.window,
+        most_docs: config.most_docs,
+    }
+}
+
 // Whether the first searcher serves before its listeners have run, and has some.
 fn is_acquired_first(config: &Config) -> bool
     ensures { result ≡ acquired_first config.now }
@@ -82,7 +99,7 @@ fn is_acquired_first(config: &Config) -> bool
 /// Each searcher is warmed and registered in the commit that opens it. Where the first searcher serves before its
 /// listeners have run (`useColdSearcher`) and there are some, its first ticket is theirs. Where memory is wanting for a request, it has
 /// the 500 reply, takes no place, and all else stands as before; `NoMemory` comes where not even that reply could be
-/// had. It costs, for each add and each delete by unique key, the postings of that key and a look among the pending
+/// had. The gate is told of the moments of the queries' look-ups. It costs, for each add and each delete by unique key, the postings of that key and a look among the pending
 /// documents; for each commit a pass over what was added, a sort of its keys, a step for each 64 documents, and now
 /// and then the merge of segments; for each query and each delete by query its evaluation; and a sort of the rows by
 /// line.
@@ -92,6 +109,7 @@ pub fn run_script<G: Gate>(
     script: &Script,
     gate: &G,
 ) -> Result<Output, NoMemory>
+    requires sizes { AreSizes (sizes_of config.now) }
     requires warming { 0 < config.now.max_warming }
     requires lines { length script.now ≤ 100000 }
     requires numbers { Ascends (map (λ line. line.number) script.now) }
@@ -100,13 +118,13 @@ pub fn run_script<G: Gate>(
     ensures lawful { IfOk result (λ o. Lawful config.now script.now (output_view o)) }
     ensures notes { IfOk result (λ o. TellNotes config.now script.now (output_view o)) }
 {
-    let _ = gate;
     let turns = turns(alloc, script.get())?;
     let listened = is_acquired_first(config);
-    let mut runner = Runner::new(alloc, config.schema.key_field(), listened)?;
+    let key = config.schema.key_field();
+    let mut runner = Runner::new(alloc, key, sizes_of(config), listened)?;
     for turn in &turns {
         let line = &script.get()[turn.index as usize];
-        runner.step(alloc, config, turn.phase, line)?;
+        runner.step(alloc, config, gate, turn.phase, line)?;
     }
     runner.finish()
 }

@@ -2,17 +2,19 @@ ghost use Rattle.std.specs.Prelude.{◌≡◌, ◌+◌, ◌<◌, ◌≤◌, ◌^
 ghost use Rattle.doc_model.specs.Document.{IsIdAt};
 ghost use Rattle.doc_sets.specs.declared.TheConstants.{MAX_DOCS};
 ghost use Rattle.search_model.specs.Live.{added, after, nothing};
+ghost use Rattle.searcher_core.specs.Shows.{AreSizes};
 ghost use Rattle.run_laws.specs.CallReadings.{change_by};
 ghost use Rattle.client_runner.specs.Rooms.{HasPlace, HasRoom, IsFirst, StaysReady};
 ghost use Rattle.client_runner.specs.Standings.{acquired, changed, opened, shown_row, standing};
 ghost use Rattle.client_runner.specs.Views.{request_view};
 
 use crate::rows::{RequestRow, SearcherRow, Verb};
+use crate::serving::Serving;
 use doc_model::Doc;
 use field_schema::{FieldNo, NoMemory, Text};
 use request_form::DeleteForm;
 use search_model::{Note, Notes};
-use served_index::Index;
+use searcher_core::CacheSizes;
 use std::alloc::Global;
 
 // A request as its line names it.
@@ -68,7 +70,7 @@ impl Head {
 // Where a serial run stands: the index, the next place, the rows so far, and the searchers.
 #[derive(Drop)]
 pub(crate) struct Runner {
-    pub(crate) index: Index,
+    pub(crate) index: Serving,
     pub(crate) place: u64,
     pub(crate) rows: Vec<RequestRow>,
     pub(crate) earlier: Vec<SearcherRow>,
@@ -77,11 +79,17 @@ pub(crate) struct Runner {
 
 impl Runner {
     // Before the first request. Where the first searcher is listened to while it serves, its listeners have acquired it.
-    pub(crate) fn new(alloc: Global, key: FieldNo, listened: bool) -> Result<Runner, NoMemory>
+    pub(crate) fn new(
+        alloc: Global,
+        key: FieldNo,
+        sizes: CacheSizes,
+        listened: bool,
+    ) -> Result<Runner, NoMemory>
+        requires { AreSizes sizes }
         ensures { IfOk result (IsFirst key listened) }
     {
         Ok(Runner {
-            index: Index::new(alloc, key)?,
+            index: Serving::new(alloc, key, sizes)?,
             place: 2,
             rows: Vec::new(alloc),
             earlier: Vec::new(alloc),
@@ -177,7 +185,7 @@ impl Runner {
 }
 
 // Takes away what a delete names. After want of memory all stands as before.
-fn take_away(index: &mut Index, alloc: Global, form: &DeleteForm) -> Result<(), NoMemory>
+fn take_away(index: &mut Serving, alloc: Global, form: &DeleteForm) -> Result<(), NoMemory>
     ensures ok { OnOk result (index.new.docs ≡ after index.old.docs (change_by form.now)) }
     ensures err { OnErr result (index.new.docs ≡ index.old.docs) }
     ensures served { index.new.served ≡ index.old.served }

@@ -1,4 +1,4 @@
-ghost use Rattle.std.specs.Prelude.{◌≡◌, ◌<◌, IfOk, OnOk, OnErr, Ok, false, map};
+ghost use Rattle.std.specs.Prelude.{◌≡◌, ◌<◌, IfOk, OnOk, OnErr, false};
 ghost use Rattle.doc_model.specs.ReadDoc.{is_no_memory as is_no_memory_of_doc};
 ghost use Rattle.search_model.specs.Messages.{doc_message};
 ghost use Rattle.reply_json.specs.Answers.{IsSound};
@@ -9,19 +9,18 @@ ghost use Rattle.run_laws.specs.CallReadings.{defaults_of};
 ghost use Rattle.client_runner.specs.declared.rows.Verb.TheVariants as Verb;
 ghost use Rattle.client_runner.specs.Rooms.{IsReady, StaysReady};
 ghost use Rattle.client_runner.specs.Runs.{AnswersBy, Follows};
-ghost use Rattle.run_laws.specs.Notes.{not_noted, note_of as note_of_cached, noted_by};
+ghost use Rattle.run_laws.specs.Notes.{IsNotedBy, not_noted};
 ghost use Rattle.client_runner.specs.Standings.{IsBare, IsRefusal, Shown, bare_text, call_of, found_by, noted_in, standing};
 
 use crate::rows::{RequestRow, Verb};
 use crate::runner::{Head, Reply, Runner};
+use crate::serving::Serving;
 use doc_model::{Doc, DocFault};
 use field_schema::{FieldList, NoMemory};
-use query_tree::Query;
 use reply_json::{Answer, reply_text};
-use request_form::{CommitForm, Defaults, DeleteForm, Filter, Request, RequestFault};
+use request_form::{CommitForm, Defaults, DeleteForm, Request, RequestFault};
+use rt_edge::Gate;
 use script_form::Config;
-use search_model::{Note, Notes};
-use served_index::Index;
 use sqlite_items::Items;
 use std::alloc::Global;
 
@@ -91,72 +90,34 @@ fn refused_row(
     Ok(head.row(None, None, None, reply))
 }
 
-// The queries of filters.
-fn queries(alloc: Global, filters: &[Filter]) -> Result<Vec<&Query>, NoMemory>
-    ensures { IfOk result (λ v. map (λ q. q.now) v.items ≡ map (λ f. f.query) filters.now) }
-{
-    let mut queries = Vec::with_capacity(alloc, filters.len())?;
-    for filter in filters {
-        queries.push(&filter.query)?;
-    }
-    Ok(queries)
-}
-
-// What a query that may use the caches, or may not, tells of them: nothing is kept yet.
-fn note_of(cached: bool) -> Note
-    ensures { result ≡ note_of_cached cached }
-{
-    if cached {
-        Note::Computed
-    } else {
-        Note::Bypassed
-    }
-}
-
-// The notes of filters.
-fn notes(alloc: Global, filters: &[Filter]) -> Result<Notes, NoMemory>
-    ensures { IfOk result (λ v. v ≡ map (λ f. note_of_cached f.cached) filters.now) }
-{
-    let mut notes = Vec::with_capacity(alloc, filters.len())?;
-    for filter in filters {
-        notes.push(note_of(filter.cached))?;
-    }
-    Ok(Items::from_vec(notes))
-}
-
-// The reply of a request, on what the current searcher sees.
-fn found_reply(
+// The reply of a request, from the caches of the current searcher where these have what it asks for.
+fn found_reply<G: Gate>(
     alloc: Global,
     config: &Config,
-    index: &Index,
+    index: &mut Serving,
     request: &Request,
+    gate: &G,
+    client: u32,
 ) -> Result<Reply, NoMemory>
-    ensures shown { IfOk result (Shown config.now (found_by index.now.served request.now)) }
-    ensures notes { IfOk result (λ r. noted_in r ≡ noted_by (Ok request.now)) }
+    ensures shown { IfOk result (Shown config.now (found_by index.old.served request.now)) }
+    ensures notes { IfOk result (λ r. IsNotedBy request.now r.docs (noted_in r)) }
+    ensures stays { index.new ≡ index.old }
 {
-    let filters = queries(alloc, request.filters.as_slice())?;
-    let (page, found) = index.search(
-        alloc,
-        &request.q,
-        filters.as_slice(),
-        &request.sort,
-        request.start,
-        request.rows,
-    )?;
-    let docs = page.len() as u32;
+    let served = index.serve(alloc, request, gate, client)?;
+    let docs = served.docs.len() as u32;
     let answer = Answer::Found {
-        found,
+        found: served.found,
         start: request.start,
-        docs: page,
+        docs: served.docs,
     };
     Ok(Reply {
         text: reply_text(alloc, &config.schema, &answer, &request.fields)?,
         code: 0,
-        found,
+        found: served.found,
         docs,
-        result: Some(note_of(request.q_cached)),
-        filters: notes(alloc, request.filters.as_slice())?,
-        doc_hits: 0,
+        result: Some(served.result),
+        filters: served.filters,
+        doc_hits: served.doc_hits,
     })
 }
 
@@ -173,10 +134,11 @@ pub fn defaults(config: &Config) -> Defaults
 impl Runner {
     // Serves a request in its turn. Where memory is wanting for it, it has the 500 reply and all else stands as before;
     // an error is that not even that reply could be had.
-    pub(crate) fn serve(
+    pub(crate) fn serve<G: Gate>(
         &mut self,
         alloc: Global,
         config: &Config,
+        gate: &G,
         head: Head,
         body: &str,
     ) -> Result<(), NoMemory>
@@ -186,7 +148,7 @@ impl Runner {
         ensures ready { OnOk result (StaysReady self.old self.new) }
     {
         self.rows.reserve(1)?;
-        let row = match self.answer(alloc, config, head, body) {
+        let row = match self.answer(alloc, config, gate, head, body) {
             Ok(row) => row,
             Err(NoMemory) => head.row(None, None, None, no_memory_reply(alloc, config)?),
         };
@@ -195,10 +157,11 @@ impl Runner {
     }
 
     // Does what a request asks for, and gives its row. After want of memory all stands as before.
-    fn answer(
+    fn answer<G: Gate>(
         &mut self,
         alloc: Global,
         config: &Config,
+        gate: &G,
         head: Head,
         body: &str,
     ) -> Result<RequestRow, NoMemory>
@@ -211,7 +174,7 @@ impl Runner {
         match head.verb {
             Verb::Add => self.update(alloc, config, head, body),
             Verb::Delete => self.delete(alloc, config, head, body),
-            Verb::Query => self.query(alloc, config, head, body),
+            Verb::Query => self.query(alloc, config, gate, head, body),
             Verb::Commit => self.commit(alloc, config, head, body),
         }
     }
@@ -265,10 +228,11 @@ impl Runner {
     }
 
     // Answers a query on what the current searcher sees, or refuses it with its first fault.
-    fn query(
+    fn query<G: Gate>(
         &mut self,
         alloc: Global,
         config: &Config,
+        gate: &G,
         head: Head,
         body: &str,
     ) -> Result<RequestRow, NoMemory>
@@ -282,7 +246,7 @@ impl Runner {
             Ok(request) => request,
             Err(fault) => return refused_row(alloc, config, head, fault),
         };
-        let reply = found_reply(alloc, config, &self.index, &request)?;
+        let reply = found_reply(alloc, config, &mut self.index, &request, gate, head.client)?;
         let generation = self.current.generation;
         let ticket = self.acquire();
         Ok(head.row(None, Some(generation), Some(ticket), reply))

@@ -2,4 +2,3 @@ pub mod Slots
 pub mod Leaving
 pub mod Numbering
 pub mod Indexing
-pub mod Finding

@@ -1,13 +1,11 @@
 -- For private clauses alone: the documents of a view that are left, and what each index is.
 use Rattle.std.specs.Prelude.{ℕ, ◌+◌, ◌<◌, ◌≤◌, List, ◌++◌, Bool, not, map, filter, All}
-use Rattle.std.specs.List.{filter_map}
 use Rattle.doc_model.specs.Document.{Document, IsIdAt}
 use Rattle.doc_sets.specs.Sets.{is_in}
 use Rattle.doc_sets.specs.declared.TheConstants.{MAX_DOCS}
 use Rattle.query_tree.specs.declared.query.Query.{Query}
 use Rattle.query_tree.specs.Matches.{top}
-use Rattle.segment_postings.specs.Numbered.{Numbered, docs, doc_at}
-use Rattle.search_model.specs.Answer.{is_hit}
+use Rattle.segment_postings.specs.Numbered.{Numbered, docs}
 use Rattle.served_index.specs.IndexState.{IndexState}
 use Rattle.served_index.specs.Pendings.{PendingState}
 
@@ -18,14 +16,6 @@ numbers_where p list = map (λ e. e.0) (filter (λ e. p e.1) list)
 -- the numbers of the documents that a query matches
 abbrev pub matching : Query → Numbered → List ℕ
 matching q v = numbers_where (λ d. top d.values q) v.list
-
--- the numbers of those that match a query and every filter
-abbrev pub hitting : Query → List Query → Numbered → List ℕ
-hitting q fs v = numbers_where (is_hit q fs) v.list
-
--- the documents of numbers
-abbrev pub docs_at : Numbered → List ℕ → List Document
-docs_at v numbers = filter_map (doc_at v) numbers
 
 -- the documents of the view whose numbers are not among those that are gone
 abbrev pub staying : Numbered → List ℕ → List Document

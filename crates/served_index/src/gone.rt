@@ -4,10 +4,12 @@ ghost use Rattle.std.specs.FinSet as set;
 ghost use Rattle.doc_sets.specs.Sets.{IsListing, is_in, members};
 ghost use Rattle.segment_postings.specs.Numbered.{docs, IsNumbered};
 ghost use Rattle.search_model.specs.Live.{has_id};
-ghost use Rattle.served_index.specs.Standing.{AreBelow, HaveIds, numbers_where};
+ghost use Rattle.served_index.specs.Standing.{AreBelow, HaveIds, matching, numbers_where};
 
 use doc_sets::{DocNo, DocSet};
 use field_schema::{FieldNo, Key, NoMemory, Text};
+use query_eval::eval;
+use query_tree::Query;
 use segment_postings::{Posting, Probe, Reads, View};
 use std::alloc::Global;
 
@@ -85,4 +87,20 @@ fn listed(alloc: Global, all: &DocSet) -> Result<Vec<DocNo>, NoMemory>
         numbers.push(number)?;
     }
     Ok(numbers)
+}
+
+// The numbers of the documents of a view that a query matches.
+pub(crate) fn matching_numbers(
+    alloc: Global,
+    view: &View,
+    query: &Query,
+) -> Result<DocSet, NoMemory>
+    ensures found { IfOk result (λ s. s ≡ set.from_list (matching query.now view.now.seen)) }
+    ensures numbered { IfOk result (λ _. IsNumbered view.now.seen) }
+{
+    let mut probe = Probe::new(view);
+    if probe.live().len() == 0 {
+        return Ok(DocSet::new(alloc));
+    }
+    eval(alloc, &mut probe, query)
 }

@@ -1,18 +1,16 @@
-ghost use Rattle.std.specs.Prelude.{◌≡◌, ◌<◌, ◌≤◌, ◌+◌, ◌^◌, [], OnOk, OnErr, IfOk, length, map, take, drop};
+ghost use Rattle.std.specs.Prelude.{◌≡◌, ◌<◌, ◌≤◌, ◌+◌, ◌^◌, [], OnOk, OnErr, IfOk, length};
 ghost use Rattle.std.specs.Arc.{arc_value};
 ghost use Rattle.search_model.specs.Live.{added, deleted_id, deleted_query, after};
-ghost use Rattle.search_model.specs.Answer.{hits};
 ghost use Rattle.doc_model.specs.Document.{IsIdAt};
 ghost use Rattle.doc_sets.specs.declared.TheConstants.{MAX_DOCS};
 ghost use Rattle.segment_postings.specs.Numbered.{docs};
 
-use crate::gone::{all_gone, numbers_with_id, set_of};
+use crate::gone::{all_gone, matching_numbers, numbers_with_id, set_of};
 use crate::pending::Pending;
-use crate::search::{first_numbers, from_start, hit_numbers, matching_numbers, stored};
 use doc_model::Doc;
 use doc_sets::DocNo;
 use field_schema::{FieldNo, NoMemory, Text};
-use query_tree::{Query, Sort};
+use query_tree::Query;
 use segment_postings::View;
 use std::alloc::Global;
 use std::marker::Model;
@@ -21,11 +19,11 @@ use std::sync::Arc;
 /// The documents that the updates so far leave, and those that the current searcher sees. Contracts see both lists in
 /// index order, how many document numbers are taken, and the place of the unique key's field.
 ///
-/// The current searcher sees a view that is never changed. Beside it stand the numbers of its documents that were
+/// The current searcher sees a view that is never changed, and that is shared with it. Beside it stand the numbers of its documents that were
 /// replaced or deleted since, and the documents that were added since. So an opening copies no document.
 #[derive(Drop)]
 pub struct Index {
-    current: View,
+    current: Arc<View>,
     // They stand in the order in which they went, and one may stand twice.
     gone: Vec<DocNo>,
     pending: Pending,
@@ -35,12 +33,13 @@ pub struct Index {
 impl Model for Index {
     ghost use Rattle.served_index.specs.IndexState.{IndexState};
     ghost use Rattle.served_index.specs.Standing.{state, IsIndex};
+    ghost use Rattle.std.specs.Arc.{arc_value};
 
     ghost Value = { IndexState };
 
-    ghost view = { λ p. state p.current.seen p.gone.items p.pending p.key };
+    ghost view = { λ p. state (arc_value p.current).seen p.gone.items p.pending p.key };
 
-    ghost invariant = { λ p. IsIndex p.current.seen p.gone.items p.pending p.key };
+    ghost invariant = { λ p. IsIndex (arc_value p.current).seen p.gone.items p.pending p.key };
 }
 
 // An opening leaves no more segments than these.
@@ -57,7 +56,7 @@ impl Index {
         ensures key { IfOk result (λ p. p.key ≡ key) }
     {
         Ok(Index {
-            current: View::empty(alloc)?,
+            current: Arc::new(alloc, View::empty(alloc)?)?,
             gone: Vec::new(alloc),
             pending: Pending::new(alloc),
             key,
@@ -144,54 +143,41 @@ impl Index {
         Ok(())
     }
 
-    /// Opens a searcher, which sees the documents as they stand.
+    /// The view that the current searcher sees. It costs nothing.
+    pub fn view(&self) -> &Arc<View>
+        ensures served { docs (arc_value result.now).seen ≡ self.now.served }
+    {
+        &self.current
+    }
+
+    /// A view of the documents as they stand, for the next searcher. The index stays as it is.
     ///
-    /// Fails only for want of memory, and then all is as before. It costs a pass over the documents added since the
-    /// last opening and a sort of their keys, a sort of the numbers that are gone, a step for each 64 numbers, and
-    /// where there are more than ten segments the merge of neighbours, by which each document moves some tens of times
-    /// over all openings.
-    pub fn open(&mut self, alloc: Global) -> Result<(), NoMemory>
-        ensures ok { OnOk result (self.new.served ≡ self.old.docs) }
-        ensures err { OnErr result (self.new.served ≡ self.old.served) }
-        ensures docs { self.new.docs ≡ self.old.docs }
-        ensures numbers { self.new.numbers ≤ self.old.numbers }
-        ensures key { self.new.key ≡ self.old.key }
+    /// Fails only for want of memory. It costs a pass over the documents added since the last opening and a sort of their
+    /// keys, a sort of the numbers that are gone, a step for each 64 numbers, and where there are more than ten segments
+    /// the merge of neighbours, by which each document moves some tens of times over all openings.
+    pub fn next_view(&self, alloc: Global) -> Result<Arc<View>, NoMemory>
+        ensures docs { IfOk result (λ v. docs (arc_value v).seen ≡ self.now.docs) }
+        ensures size { IfOk result (λ v. (arc_value v).seen.size ≤ self.now.numbers) }
     {
         let gone = set_of(alloc, &self.gone)?;
         let added = self.pending.shared(alloc)?;
         let extended = self.current.extend(alloc, added, &gone)?;
-        let current = settled(alloc, extended)?;
-        self.current = current;
-        self.gone = Vec::new(alloc);
-        self.pending = Pending::new(alloc);
-        Ok(())
+        let next = settled(alloc, extended)?;
+        Ok(Arc::new(alloc, next)?)
     }
 
-    /// Those of the documents that match a query and every filter and that the current searcher sees, in the order of a
-    /// sort: `rows` of them without the first `start`, and how many there are.
-    ///
-    /// Fails only for want of memory. It costs the evaluation of the query and of each filter, a step for each document
-    /// up to the end of the page, and where a field sorts a value and a step in a heap for each that is found.
-    pub fn search(
-        &self,
-        alloc: Global,
-        query: &Query,
-        filters: &[&Query],
-        sort: &Sort,
-        start: u32,
-        rows: u32,
-    ) -> Result<(Vec<Arc<Doc>>, u32), NoMemory>
-        ensures found { IfOk result (λ r. r.1
-            ≡ length (hits self.now.served query.now (map (λ q. q.now) filters.now) sort.now)) }
-        ensures page { IfOk result (λ r. map arc_value r.0.items
-            ≡ take rows (drop start
-            (hits self.now.served query.now (map (λ q. q.now) filters.now) sort.now))) }
+    /// Goes on from a view of the documents as they stand: the current searcher sees it from now on. It takes no memory.
+    pub fn go_on(&mut self, alloc: Global, view: Arc<View>)
+        requires docs { docs (arc_value view).seen ≡ self.old.docs }
+        requires size { (arc_value view).seen.size ≤ self.old.numbers }
+        ensures served { self.new.served ≡ self.old.docs }
+        ensures docs { self.new.docs ≡ self.old.docs }
+        ensures numbers { self.new.numbers ≤ self.old.numbers }
+        ensures key { self.new.key ≡ self.old.key }
     {
-        let found = hit_numbers(alloc, &self.current, query, filters)?;
-        let end = u64::from(start) + u64::from(rows);
-        let first = first_numbers(alloc, &self.current, &found, sort, end)?;
-        let page = stored(alloc, &self.current, from_start(first.get(), start))?;
-        Ok((page, found.len()))
+        self.current = view;
+        self.gone = Vec::new(alloc);
+        self.pending = Pending::new(alloc);
     }
 }
 

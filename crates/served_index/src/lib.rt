@@ -4,6 +4,5 @@
 mod gone;
 mod index;
 mod pending;
-mod search;
 
 pub use index::Index;

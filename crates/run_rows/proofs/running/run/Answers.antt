@@ -2,11 +2,16 @@ use Rattle.std.proofs.Common.{arith, subst}
 use Rattle.script_form.specs.Lines.{script_lines}
 use Rattle.script_form.specs.ReadScript.{most_clients}
 use Rattle.script_form.proofs.ScriptRanges.{script_is}
-use Rattle.client_runner.proofs.Inputs.{numbers_ascend, some_warming, within_lines}
+use Rattle.client_runner.proofs.Inputs.{numbers_ascend, sizes_are, some_warming, within_lines}
 use Rattle.run_rows.specs.Inputs.{IsInput}
 use Rattle.run_rows.proofs.running.run.Goals as goal
 
 -- what a run asks for holds of what reads
+pub run_script-requires-clause-sizes : goal.run_script-requires-clause-sizes
+run_script-requires-clause-sizes c κs =
+    let reads = subst (IsInput c.args.bytes.now) c.in-Read.is c.in_ok-input.ensures in
+    sizes_are c.args.bytes.now c.in-Read.config reads.1
+
 pub run_script-requires-clause-warming : goal.run_script-requires-clause-warming
 run_script-requires-clause-warming c κs =
     let reads = subst (IsInput c.args.bytes.now) c.in-Read.is c.in_ok-input.ensures in

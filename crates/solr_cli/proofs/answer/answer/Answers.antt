@@ -2,8 +2,12 @@ use Rattle.std.proofs.Common.{arith}
 use Rattle.script_form.specs.Lines.{script_lines}
 use Rattle.script_form.specs.ReadScript.{most_clients}
 use Rattle.script_form.proofs.ScriptRanges.{script_is}
-use Rattle.client_runner.proofs.Inputs.{numbers_ascend, some_warming, within_lines}
+use Rattle.client_runner.proofs.Inputs.{numbers_ascend, sizes_are, some_warming, within_lines}
 use Rattle.solr_cli.proofs.answer.answer.Goals as goal
+
+pub run_script-requires-clause-sizes : goal.run_script-requires-clause-sizes
+run_script-requires-clause-sizes g c κs within =
+    sizes_are c.args.bytes.now c.in_ok-config.config c.in_ok-config.ensures.config
 
 pub run_script-requires-clause-warming : goal.run_script-requires-clause-warming
 run_script-requires-clause-warming g c κs within =

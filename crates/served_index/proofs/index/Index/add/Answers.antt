@@ -1,5 +1,6 @@
 use Rattle.std.proofs.Common.{◌≡◌, ◌++◌, ◌+◌, ◌<◌, ◌≤◌, length, take, ap, sym, subst, ◌∙◌, arith, rules}
 use Rattle.std.proofs.Math.Seq.{take-append_seam}
+use Rattle.std.specs.Arc.{arc_value}
 use Rattle.doc_model.specs.Document.{IsIdAt}
 use Rattle.doc_sets.specs.declared.TheConstants.{MAX_DOCS}
 use Rattle.search_model.specs.Live.{added, after, has_id}
@@ -14,7 +15,7 @@ joined c = c.in_ok-extend_from_slice.ensures.items ∙ ap (λ xs. c.self.inside.
 
 pub invariant_of-self-in-Ok : goal.invariant_of-self-in-Ok
 invariant_of-self-in-Ok c =
-    let v = c.self.inside.current.seen in
+    let v = (arc_value c.self.inside.current).seen in
     let old = c.self.inside.pending in
     let room : v.size + old.slots < MAX_DOCS = subst (λ (k : IndexState). k.numbers < MAX_DOCS) (sym c.self.view_is) c.requires.room in
     let more : c.put.new.self.slots ≤ old.slots + 1 = c.in-Ok.ensures.slots in
@@ -32,7 +33,7 @@ same c =
 
 pub invariant_of-self-in-Err : goal.invariant_of-self-in-Err
 invariant_of-self-in-Err c =
-    let v = c.self.inside.current.seen in
+    let v = (arc_value c.self.inside.current).seen in
     let old = c.self.inside.pending in
     let room : v.size + old.slots < MAX_DOCS = subst (λ (k : IndexState). k.numbers < MAX_DOCS) (sym c.self.view_is) c.requires.room in
     let more : c.put.new.self.slots ≤ old.slots + 1 = c.in-Err.ensures.slots in
@@ -43,7 +44,7 @@ invariant_of-self-in-Err c =
 
 pub returns-in-Ok-clause-ok : goal.returns-in-Ok-clause-ok
 returns-in-Ok-clause-ok c =
-    docs-added c.self.inside.current.seen c.self.inside.gone.items c.extend_from_slice.new.self.items c.in_ok-found.found.items c.self.inside.pending.docs c.put.new.self.docs c.id.result.now c.args.doc
+    docs-added (arc_value c.self.inside.current).seen c.self.inside.gone.items c.extend_from_slice.new.self.items c.in_ok-found.found.items c.self.inside.pending.docs c.put.new.self.docs c.id.result.now c.args.doc
     c.in_ok-found.ensures.numbered (c.id.ensures ∙ ap (λ d. d.id) (c.deref.ensures ∙ c.in_ok-doc.ensures.ok)) c.in_ok-found.ensures.found (joined c)
     (c.in-Ok.ensures.ok ∙ ap (λ d. after c.self.inside.pending.docs (added d)) c.in_ok-doc.ensures.ok)
     ∙ ap (λ (k : IndexState). after k.docs (added c.args.doc)) c.self.view_is

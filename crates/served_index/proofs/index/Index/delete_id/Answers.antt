@@ -1,5 +1,6 @@
 use Rattle.std.proofs.Common.{◌≡◌, ◌++◌, ◌+◌, ◌≤◌, ap, ◌∙◌, arith}
 use Rattle.std.specs.Prelude.{not}
+use Rattle.std.specs.Arc.{arc_value}
 use Rattle.doc_sets.specs.declared.TheConstants.{MAX_DOCS}
 use Rattle.search_model.specs.Live.{deleted_id, after, has_id}
 use Rattle.served_index.proofs.Indexing.{docs-deleted, AreBelow-joined, HaveIds-filtered, IsIndex-changed}
@@ -11,7 +12,7 @@ joined c = c.in_ok-extend_from_slice.ensures.items ∙ ap (λ xs. c.self.inside.
 
 pub invariant_of-self-2 : goal.invariant_of-self-2
 invariant_of-self-2 c =
-    let v = c.self.inside.current.seen in
+    let v = (arc_value c.self.inside.current).seen in
     let old = c.self.inside.pending in
     let most : v.size + old.slots ≤ MAX_DOCS = c.self.invariant.most in
     let less = c.remove.ensures.slots in
@@ -22,6 +23,6 @@ invariant_of-self-2 c =
 
 pub returns-clause-ok : goal.returns-clause-ok
 returns-clause-ok c =
-    docs-deleted c.self.inside.current.seen c.self.inside.gone.items c.extend_from_slice.new.self.items c.in_ok-found.found.items c.self.inside.pending.docs c.remove.new.self.docs c.in_ok-id.id
+    docs-deleted (arc_value c.self.inside.current).seen c.self.inside.gone.items c.extend_from_slice.new.self.items c.in_ok-found.found.items c.self.inside.pending.docs c.remove.new.self.docs c.in_ok-id.id
     c.in_ok-found.ensures.numbered c.in_ok-found.ensures.found (joined c) c.remove.ensures.docs
     ∙ (λ j. after ((c.self.view_is j).docs) (deleted_id (c.in_ok-id.ensures j)))

@@ -1,6 +1,7 @@
 use Rattle.std.proofs.Common.{◌+◌, ◌≤◌, ap, ◌∙◌, arith}
 use Rattle.std.specs.Prelude.{◌||◌, not}
 use Rattle.std.specs.FinSet.{contains, contains-from_list_nat}
+use Rattle.std.specs.Arc.{arc_value}
 use Rattle.doc_sets.specs.Sets.{is_in}
 use Rattle.doc_sets.specs.declared.TheConstants.{MAX_DOCS}
 use Rattle.query_tree.specs.Matches.{top}
@@ -12,7 +13,7 @@ use Rattle.served_index.proofs.index.Index.delete_query.Goals as goal
 
 pub invariant_of-self : goal.invariant_of-self
 invariant_of-self c =
-    let v = c.self.inside.current.seen in
+    let v = (arc_value c.self.inside.current).seen in
     let old = c.self.inside.pending in
     let most : v.size + old.slots ≤ MAX_DOCS = c.self.invariant.most in
     let less = c.in_ok-pending.ensures.slots in
@@ -22,7 +23,7 @@ invariant_of-self c =
 
 pub returns-clause-ok : goal.returns-clause-ok
 returns-clause-ok c =
-    let v = c.self.inside.current.seen in
+    let v = (arc_value c.self.inside.current).seen in
     docs-unmatched v c.self.inside.gone.items c.in_ok-gone.gone.items c.self.inside.pending.docs c.in_ok-pending.pending.docs c.args.query.now c.in_ok-found.ensures.numbered
     (λ n. c.in_ok-gone.ensures.same n ∙ (λ j. is_in (c.deref.ensures.value j) n || contains (c.in_ok-found.ensures.found j) n)
     ∙ ap (λ b. is_in c.self.inside.gone.items n || b) (contains-from_list_nat (matching c.args.query.now v) n))

@@ -1,0 +1,128 @@
+//! The index of a serial run, and the door of the searcher that serves.
+ghost use Rattle.std.specs.Prelude.{◌≡◌, ◌<◌, ◌≤◌, ◌+◌, [], OnOk, OnErr, IfOk, drop, length, map, take};
+ghost use Rattle.std.specs.Arc.{arc_value};
+ghost use Rattle.doc_model.specs.Document.{IsIdAt};
+ghost use Rattle.doc_sets.specs.declared.TheConstants.{MAX_DOCS};
+ghost use Rattle.search_model.specs.Answer.{hits};
+ghost use Rattle.search_model.specs.Live.{added, after, deleted_id, deleted_query};
+ghost use Rattle.searcher_core.specs.Noting.{IsNoted};
+ghost use Rattle.searcher_core.specs.Searches.{queries_of};
+ghost use Rattle.searcher_core.specs.Shows.{AreSizes};
+
+use doc_model::Doc;
+use field_schema::{FieldNo, NoMemory};
+use query_tree::Query;
+use request_form::Request;
+use rt_edge::Gate;
+use searcher_core::{CacheSizes, Door, Searcher, Served, serve};
+use segment_postings::Probe;
+use served_index::Index;
+use std::alloc::Global;
+use std::marker::Model;
+use std::sync::Arc;
+
+// The index, and a door to the searcher that sees its current view. Contracts see the index.
+#[derive(Drop)]
+pub(crate) struct Serving {
+    index: Index,
+    door: Door,
+}
+
+impl Model for Serving {
+    ghost use Rattle.served_index.specs.IndexState.{IndexState};
+    ghost use Rattle.client_runner.specs.Doors.{IsDoorTo};
+
+    ghost Value = { IndexState };
+
+    ghost view = { λ s. s.index };
+
+    ghost invariant = { λ s. IsDoorTo s.index.served s.door };
+}
+
+impl Serving {
+    // No document.
+    pub(crate) fn new(alloc: Global, key: FieldNo, sizes: CacheSizes) -> Result<Serving, NoMemory>
+        requires { AreSizes sizes }
+        ensures docs { IfOk result (λ s. s.docs ≡ []) }
+        ensures served { IfOk result (λ s. s.served ≡ []) }
+        ensures numbers { IfOk result (λ s. s.numbers ≡ 0) }
+        ensures key { IfOk result (λ s. s.key ≡ key) }
+    {
+        let index = Index::new(alloc, key)?;
+        let view = Arc::clone(index.view())?;
+        let door = Searcher::new(alloc, view, sizes)?;
+        Ok(Serving { index, door })
+    }
+
+    // Adds a document, last, in place of the one with its unique key.
+    pub(crate) fn add(&mut self, alloc: Global, doc: Doc) -> Result<(), NoMemory>
+        requires room { self.old.numbers < MAX_DOCS }
+        requires id { IsIdAt doc self.old.key }
+        ensures ok { OnOk result (self.new.docs ≡ after self.old.docs (added doc)) }
+        ensures err { OnErr result (self.new.docs ≡ self.old.docs) }
+        ensures served { self.new.served ≡ self.old.served }
+        ensures numbers { self.new.numbers ≤ self.old.numbers + 1 }
+        ensures key { self.new.key ≡ self.old.key }
+    {
+        self.index.add(alloc, doc)
+    }
+
+    // Deletes the document with a unique key, if there is one.
+    pub(crate) fn delete_id(&mut self, alloc: Global, id: &str) -> Result<(), NoMemory>
+        ensures ok { OnOk result (self.new.docs ≡ after self.old.docs (deleted_id id.now)) }
+        ensures err { OnErr result (self.new.docs ≡ self.old.docs) }
+        ensures served { self.new.served ≡ self.old.served }
+        ensures numbers { self.new.numbers ≤ self.old.numbers }
+        ensures key { self.new.key ≡ self.old.key }
+    {
+        self.index.delete_id(alloc, id)
+    }
+
+    // Deletes each document that a query matches.
+    pub(crate) fn delete_query(&mut self, alloc: Global, query: &Query) -> Result<(), NoMemory>
+        ensures ok { OnOk result (self.new.docs ≡ after self.old.docs (deleted_query query.now)) }
+        ensures err { OnErr result (self.new.docs ≡ self.old.docs) }
+        ensures served { self.new.served ≡ self.old.served }
+        ensures numbers { self.new.numbers ≤ self.old.numbers }
+        ensures key { self.new.key ≡ self.old.key }
+    {
+        self.index.delete_query(alloc, query)
+    }
+
+    // Opens a searcher of the same sizes on the documents as they stand, whose caches keep nothing yet.
+    pub(crate) fn open(&mut self, alloc: Global) -> Result<(), NoMemory>
+        ensures ok { OnOk result (self.new.served ≡ self.old.docs) }
+        ensures err { OnErr result (self.new.served ≡ self.old.served) }
+        ensures docs { self.new.docs ≡ self.old.docs }
+        ensures numbers { self.new.numbers ≤ self.old.numbers }
+        ensures key { self.new.key ≡ self.old.key }
+    {
+        let view = self.index.next_view(alloc)?;
+        let sizes = self.door.searcher.sizes();
+        let door = Searcher::new(alloc, Arc::clone(&view)?, sizes)?;
+        self.index.go_on(alloc, view);
+        self.door = door;
+        Ok(())
+    }
+
+    // Serves a request from the current searcher.
+    pub(crate) fn serve<G: Gate>(
+        &mut self,
+        alloc: Global,
+        request: &Request,
+        gate: &G,
+        client: u32,
+    ) -> Result<Served, NoMemory>
+        ensures found { IfOk result (λ s. s.found ≡ length (hits self.old.served
+            request.now.q (queries_of request.now.filters) request.now.sort)) }
+        ensures docs { IfOk result (λ s. map arc_value s.docs.items
+            ≡ take request.now.rows (drop request.now.start (hits self.old.served
+            request.now.q (queries_of request.now.filters) request.now.sort))) }
+        ensures notes { IfOk result (λ s. IsNoted request.now s) }
+        ensures stays { self.new ≡ self.old }
+    {
+        let Door { searcher, seats } = &mut self.door;
+        let mut probe = Probe::new(searcher.view());
+        serve(alloc, searcher, seats, request, &mut probe, gate, client)
+    }
+}

@@ -1,0 +1,7 @@
+pub mod Caching
+pub mod Finding
+pub mod Lefts
+pub mod Making
+pub mod Noting
+pub mod Pages
+pub mod Turns

@@ -1,0 +1,69 @@
+-- The page of an entry, and its documents one after another.
+use Rattle.std.proofs.Common.{◌≡◌, ℕ, ◌+◌, ◌-◌, ◌≤◌, ◌<◌, Bool, true, false, ◌||◌, List, [], ◌∷◌, length, map, take, drop, nat_le, nat_eq, refl, sym, ap, subst, ◌∙◌, arith, All}
+use Rattle.std.proofs.lemmas.Bool.Decides.{nat_tests}
+use Rattle.std.proofs.lemmas.List.{length-map, take-map, take_all, take-take, drop-take, length-take}
+use Rattle.doc_model.specs.Document.{Document}
+use Rattle.query_eval.specs.Found.{found}
+use Rattle.request_form.specs.declared.request.Request.{Request}
+use Rattle.result_cache.specs.declared.entry.Entry.{Entry}
+use Rattle.result_cache.specs.Entries.{serves}
+use Rattle.search_model.specs.Answer.{is_hit}
+use Rattle.segment_postings.specs.Numbered.{Numbered, IsNumbered, IsLive}
+use Rattle.sort_order.specs.Order.{in_order}
+use Rattle.sort_window.specs.First.{among, first_numbers}
+use Rattle.searcher_core.specs.Meeting.{IsEntryFor, docs_at, set_of}
+use Rattle.searcher_core.specs.Searches.{hits_of, queries_of}
+use Rattle.searcher_core.proofs.Finding.{len_is, ordered_count, page_is, page_live}
+
+is_at_most : (m n : ℕ) → nat_le m n ≡ true → m ≤ n
+is_at_most m n h = grind (arith, nat_tests)
+
+is_same : (m n : ℕ) → nat_eq m n ≡ true → m ≡ n
+is_same m n h = grind (arith, nat_tests)
+
+-- the front of a list that serves is that of the list
+same_front : {X : Type 0} (need count : ℕ) (ids xs : List X) → ids ≡ take (length ids) xs → count ≡ length xs → (nat_le need (length ids) || nat_eq (length ids) count) ≡ true
+    → take need ids ≡ take need xs
+same_front need count ids xs is counts enough =
+    (elim (nat_le need (length ids)) as (λ b. nat_le need (length ids) ≡ b → (b || nat_eq (length ids) count) ≡ true → take need ids ≡ take need xs) [
+      | true ↦ λ within h. ap (take need) is ∙ take-take need (length ids) xs (is_at_most need (length ids) within)
+      | false ↦ λ beyond h.
+          (let whole : length ids ≡ length xs = is_same (length ids) count h ∙ counts in
+           ap (take need) (is ∙ take_all (length ids) xs (omega (arith, whole))))
+    ]) refl enough
+
+module _ (v : Numbered) (r : Request) (e : Entry) (sound : IsNumbered v) (is : IsEntryFor v r e) where
+  all : List ℕ
+  all = map (λ d. d.0) (in_order r.sort (among (set_of v r) v))
+
+  unfolding found
+  pub found_is : e.found ≡ length (hits_of v r)
+  found_is = is.counts ∙ len_is v (is_hit r.q (queries_of r.filters)) r.sort (set_of v r) sound refl
+
+  all_count : e.found ≡ length all
+  unfolding all found
+  all_count =
+      is.counts ∙ ordered_count v (is_hit r.q (queries_of r.filters)) r.sort (set_of v r) sound refl
+      ∙ sym (length-map (in_order r.sort (among (set_of v r) v)) (λ d. d.0))
+
+  first_of : (n : ℕ) → first_numbers n r.sort (set_of v r) v ≡ take n all
+  unfolding all
+  first_of n = sym (take-map (λ d. d.0) n (in_order r.sort (among (set_of v r) v)))
+
+  -- the numbers of the page
+  module _ (ns : List ℕ) (page : ns ≡ take r.rows (drop r.start e.ids)) where
+    numbers_are : ns ≡ drop r.start (first_numbers (r.start + r.rows) r.sort (set_of v r) v)
+    numbers_are =
+        page ∙ sym (drop-take r.start r.rows e.ids)
+        ∙ ap (drop r.start) (same_front (r.start + r.rows) e.found e.ids all (is.lists ∙ first_of (length e.ids)) all_count is.enough ∙ sym (first_of (r.start + r.rows)))
+
+    pub numbers_live : All (IsLive v) ns
+    unfolding found
+    numbers_live = page_live v (is_hit r.q (queries_of r.filters)) r.sort (set_of v r) sound refl r.start r.rows ns numbers_are
+
+    pub docs_are : docs_at v ns ≡ take r.rows (drop r.start (hits_of v r))
+    unfolding found
+    docs_are = page_is v (is_hit r.q (queries_of r.filters)) r.sort (set_of v r) sound refl r.start r.rows ns numbers_are
+
+    pub numbers_few : length ns ≤ r.rows
+    numbers_few = (let few : length (take r.rows (drop r.start e.ids)) ≤ r.rows = rw length-take (omega arith) in let same = ap length page in omega (arith, few, same))
