@@ -27,7 +27,7 @@ module _ {K V : Type 0} (Fits : K × V → Type 0) where
       ]) is
 
   -- the value of a key that passes, with that key
-  value_there : (t : K → Bool) (es : List (K × V)) (v : V) → AllByRecursion Fits es → lookup t es ≡ Some v → (k : K) × (t k ≡ true) × Fits (k, v)
+  pub value_there : (t : K → Bool) (es : List (K × V)) (v : V) → AllByRecursion Fits es → lookup t es ≡ Some v → (k : K) × (t k ≡ true) × Fits (k, v)
   value_there t [] v all is = cc
   value_there t (f ∷ es) v all is =
       (elim (t f.0) as (λ b. t f.0 ≡ b → cond b (Some f.1) (lookup t es) ≡ Some v → (k : K) × (t k ≡ true) × Fits (k, v)) [

@@ -1,4 +1,5 @@
 pub mod Caching
+pub mod Costs
 pub mod Finding
 pub mod Lefts
 pub mod Making

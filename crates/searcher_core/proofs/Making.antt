@@ -15,13 +15,17 @@ use Rattle.result_cache.specs.Keys.{HasFilters}
 use Rattle.search_model.specs.Answer.{is_hit}
 use Rattle.segment_postings.specs.Numbered.{Numbered, IsNumbered, docs}
 use Rattle.sort_window.specs.First.{first_numbers, AreLive}
-use Rattle.searcher_core.specs.Evaluated.{AskInTurn, passes_too, while_some}
+use Rattle.search_model.specs.declared.notes.Note.{Note}
+use Rattle.search_model.specs.Noting.{AreNotes}
+use Rattle.segment_postings.specs.declared.posting.Counts.{Counts}
+use Rattle.searcher_core.specs.Evaluated.{AskInTurn, computed, evaluated, passes_too, while_some}
+use Rattle.searcher_core.specs.Noting.{may_cache}
 use Rattle.searcher_core.specs.Fits.{IsResult, set_of_key}
-use Rattle.searcher_core.specs.Meeting.{HasMet, IsCommonOf, IsEntryFor, left_of, set_of}
+use Rattle.searcher_core.specs.Meeting.{HasMet, IsCommonOf, IsEntryFor, IsMade, left_of, set_of}
 use Rattle.searcher_core.specs.Searches.{IsByCost, cached, uncached, queries_of}
 use Rattle.searcher_core.proofs.Finding.{are_live}
 use Rattle.searcher_core.proofs.Lefts.{common_left, met_both}
-use Rattle.searcher_core.proofs.Turns.{hits_by_parts, key_hits}
+use Rattle.searcher_core.proofs.Turns.{asked_both, hits_by_parts, key_hits}
 
 -- ---- what is found
 
@@ -39,6 +43,41 @@ module _ (v : Numbered) (r : Request) (turns : List Filter) (sets : List Numbers
   asked_made =
       (met_both v r.q (queries_of turns) (left_of v left) first last before between after main others).asked (λ d. list_all (top d.values) (queries_of (cached r.filters)))
       (common_left v (queries_of (cached r.filters)) sets left sound are common)
+
+-- the same as it is told along the way, each of the view as it was then
+module _ (v v1 v2 : Numbered) (r : Request) (of turns : List Filter) (sets : List Numbers) (left : Option Numbers) (first last : Numbers) (notes : List Note) (begun before between after : ℕ)
+    (sound : IsNumbered v) (same1 : v1 ≡ v) (same2 : v2 ≡ v1) (of_is : of ≡ r.filters) (by_cost : IsByCost (uncached of) turns) (are : sets ≡ map (λ q. answer q v) (queries_of (cached of)))
+    (common : IsCommonOf sets left) (main : HasMet v1 (r.q ∷ []) (left_of v1 left) first before between) (others : HasMet v2 (queries_of turns) first last between after)
+    (noted : AreNotes (may_cache of) notes) (asked : AskInTurn (computed of notes) begun before) where
+  by_cost' : IsByCost (uncached r.filters) turns
+  by_cost' = subst (λ fs. IsByCost (uncached fs) turns) of_is by_cost
+
+  are' : sets ≡ map (λ q. answer q v) (queries_of (cached r.filters))
+  are' = are ∙ ap (λ fs. map (λ q. answer q v) (queries_of (cached fs))) of_is
+
+  main' : HasMet v (r.q ∷ []) (left_of v left) first before between
+  main' = subst (λ w. HasMet w (r.q ∷ []) (left_of w left) first before between) same1 main
+
+  others' : HasMet v (queries_of turns) first last between after
+  others' = subst (λ w. HasMet w (queries_of turns) first last between after) (same2 ∙ same1) others
+
+  pub set_is : last ≡ set_of v r
+  set_is = set_made v r turns sets left first last before between after sound by_cost' are' common main' others'
+
+  pub made_is : (begin end : Counts) → begin.postings ≡ begun → end.postings ≡ after → IsMade v r begin end notes
+  made_is begin end from to = record {
+    notes_are = subst (λ fs. AreNotes (may_cache fs) notes) of_is noted;
+    evaluates = record {
+      turns = turns;
+      by_cost = by_cost';
+      asked =
+          subst (λ k. AskInTurn (evaluated (docs v) r turns notes) k end.postings) (sym from)
+          (subst (λ k. AskInTurn (evaluated (docs v) r turns notes) begun k) (sym to)
+          (asked_both (computed r.filters notes) (while_some (docs v) (λ d. list_all (top d.values) (queries_of (cached r.filters))) (r.q ∷ queries_of turns)) begun before after
+          (subst (λ fs. AskInTurn (computed fs notes) begun before) of_is asked)
+          (asked_made v r turns sets left first last before between after sound by_cost' are' common main' others')));
+    };
+  }
 
 pub live_of_set : (v : Numbered) (r : Request) (s : Numbers) → IsNumbered v → s ≡ set_of v r → AreLive s v
 unfolding found

@@ -35,12 +35,10 @@ while_some ds p [] = []
 while_some ds p (q ∷ qs) =
     if list_any p ds then q ∷ while_some ds (λ d. p d && top d.values q) qs else []
 
--- Where the result was there already nothing is evaluated. Else the filters that their cache lacked, then the main query and the filters that go past
--- the caches, by cost, until nothing is left of the documents that the cached filters match.
-abbrev pub evaluated : List Document → Request → List Filter → Note → List Note → List Query
-evaluated ds r turns Hit notes = []
-evaluated ds r turns Joined notes = []
-evaluated ds r turns _ notes =
+-- The filters that their cache lacked; then the main query and the filters that go past the caches, as long as something is left of the documents that the
+-- cached filters match.
+abbrev pub evaluated : List Document → Request → List Filter → List Note → List Query
+evaluated ds r turns notes =
     computed r.filters notes
     ++ while_some ds (λ d. list_all (top d.values) (queries_of (cached r.filters))) (r.q ∷ queries_of turns)
 
@@ -60,10 +58,20 @@ ReadsValues Hit before after = after ≡ before
 ReadsValues Joined before after = after ≡ before
 ReadsValues _ before after = Unit {0}
 
--- what a service with these notes reads of its view
-pub record ReadsAsNoted (v : Numbered) (r : Request) (s : Served) (before after : Counts) : Type 0 where
+-- the filters that go past the caches are evaluated by cost
+pub record EvaluatesAsNoted (v : Numbered) (r : Request) (notes : List Note) (before after : ℕ) : Type 0 where
   pub turns : List Filter
   pub by_cost : IsByCost (uncached r.filters) turns
-  pub postings : AskInTurn (evaluated (docs v) r turns s.result s.filters) before.postings after.postings
+  pub asked : AskInTurn (evaluated (docs v) r turns notes) before after
+
+-- where the result was there already, nothing is evaluated
+abbrev pub AsksAsNoted : Numbered → Request → Note → List Note → ℕ → ℕ → Type 0
+AsksAsNoted v r Hit notes before after = after ≡ before
+AsksAsNoted v r Joined notes before after = after ≡ before
+AsksAsNoted v r _ notes before after = EvaluatesAsNoted v r notes before after
+
+-- what a service with these notes reads of its view
+pub record ReadsAsNoted (v : Numbered) (r : Request) (s : Served) (before after : Counts) : Type 0 where
+  pub postings : AsksAsNoted v r s.result s.filters before.postings after.postings
   pub values : ReadsValues s.result before.values after.values
   pub stored : after.stored ≡ raised_by (length s.docs.items - s.doc_hits) before.stored

@@ -1,16 +1,14 @@
 -- For private clauses alone: sets of what passes, as they are met one after another.
-use Rattle.std.specs.Prelude.{◌≡◌, ℕ, ◌+◌, ◌<◌, List, [], ◌∷◌, ◌++◌, length, Bool, true, Option, Some, None}
+use Rattle.std.specs.Prelude.{◌≡◌, ℕ, ◌+◌, ◌<◌, List, [], length, Bool, true, Option, Some, None}
 use Rattle.std.specs.Arc.{arc_value}
 use Rattle.std.specs.FinSet.{from_list, len}
-use Rattle.std.specs.List.{filter_map, list_all}
+use Rattle.std.specs.List.{filter_map}
 use Rattle.field_schema.specs.declared.key.Key.{Key}
 use Rattle.doc_model.specs.Document.{Document}
 use Rattle.doc_sets.specs.Sets.{Numbers}
 use Rattle.query_eval.specs.Found.{found}
 use Rattle.query_eval.specs.Many.{IsCommon}
 use Rattle.query_tree.specs.declared.query.Query.{Query}
-use Rattle.query_tree.specs.Matches.{top}
-use Rattle.request_form.specs.declared.request.Filter.{Filter}
 use Rattle.request_form.specs.declared.request.Request.{Request}
 use Rattle.result_cache.specs.declared.entry.Entry.{Entry}
 use Rattle.result_cache.specs.Entries.{serves}
@@ -19,11 +17,12 @@ use Rattle.search_model.specs.declared.notes.Note.{Note}
 use Rattle.segment_postings.specs.declared.posting.Counts.{Counts}
 use Rattle.segment_postings.specs.Numbered.{Numbered, docs, doc_at, numbers}
 use Rattle.sort_window.specs.First.{first_numbers}
+use Rattle.sort_window.specs.Windows.{IsWindow}
 use Rattle.searcher_core.specs.declared.results.Given.{Given}
-use Rattle.searcher_core.specs.Evaluated.{AskInTurn, ReadsValues, computed, evaluated, passes_too, while_some}
+use Rattle.searcher_core.specs.Evaluated.{AskInTurn, AsksAsNoted, EvaluatesAsNoted, ReadsValues, passes_too, while_some}
 use Rattle.search_model.specs.Noting.{AreNotes, AreNotesAfter, IsNote}
 use Rattle.searcher_core.specs.Noting.{may_cache}
-use Rattle.searcher_core.specs.Searches.{cached, uncached, queries_of, IsByCost}
+use Rattle.searcher_core.specs.Searches.{queries_of}
 
 -- what the sets have in common, if there are sets
 abbrev pub IsCommonOf : List Numbers → Option Numbers → Type 0
@@ -50,6 +49,10 @@ pub record IsEntryFor (v : Numbered) (r : Request) (e : Entry) : Type 0 where
   pub lists : e.ids ≡ first_numbers (length e.ids) r.sort (set_of v r) v
   pub enough : serves (r.start + r.rows) e ≡ true
 
+-- the ids are the first of a set in order, as many as the window of the request's page
+abbrev pub IsFirstWindow : Request → ℕ → Numbers → Numbered → List ℕ → Type 0
+IsFirstWindow r size set v ids = (n : ℕ) × IsWindow r.start r.rows size n × (ids ≡ first_numbers n r.sort set v)
+
 -- the documents of numbers
 abbrev pub docs_at : Numbered → List ℕ → List Document
 docs_at v numbers = filter_map (doc_at v) numbers
@@ -60,25 +63,15 @@ pub record Stays {S : Type 0} (seen : S → Numbered) (keys : S → ℕ → List
   pub terms : keys new ≡ keys old
   pub stored : (counted new).stored ≡ (counted old).stored
 
--- what a request's queries were found by, where its result was not there
-abbrev pub making : Numbered → Request → List Filter → List Note → List Query
-making v r turns notes =
-    computed r.filters notes
-    ++ while_some (docs v) (λ d. list_all (top d.values) (queries_of (cached r.filters))) (r.q ∷ queries_of turns)
-
 -- a result was made, with these notes of the filters
 pub record IsMade (v : Numbered) (r : Request) (before after : Counts) (notes : List Note) : Type 0 where
   pub notes_are : AreNotes (may_cache r.filters) notes
-  pub turns : List Filter
-  pub by_cost : IsByCost (uncached r.filters) turns
-  pub postings : AskInTurn (making v r turns notes) before.postings after.postings
+  pub evaluates : EvaluatesAsNoted v r notes before.postings after.postings
 
 -- a result was given, kept or made
 pub record IsGiven (v : Numbered) (r : Request) (before after : Counts) (g : Given) : Type 0 where
   pub entry_is : IsEntryFor v r (arc_value g.entry)
   pub result_is : IsNote r.q_cached g.result
   pub notes_are : AreNotesAfter g.result (may_cache r.filters) g.filters.items
-  pub turns : List Filter
-  pub by_cost : IsByCost (uncached r.filters) turns
-  pub postings : AskInTurn (evaluated (docs v) r turns g.result g.filters.items) before.postings after.postings
+  pub asks : AsksAsNoted v r g.result g.filters.items before.postings after.postings
   pub values : ReadsValues g.result before.values after.values

@@ -1,5 +1,5 @@
 //! Filters that may be cached: looked up in their order, and evaluated where they are not there.
-ghost use Rattle.std.specs.Prelude.{◌≡◌, IfOk, map, true};
+ghost use Rattle.std.specs.Prelude.{◌≡◌, ◌++◌, ◌∷◌, [], IfOk, map, true};
 ghost use Rattle.std.specs.Arc.{arc_value};
 ghost use Rattle.query_tree.specs.declared.query.Query.{out-Query};
 ghost use Rattle.query_eval.specs.Found.{answer};
@@ -44,15 +44,37 @@ pub(crate) fn cached_sets<P: Reads, G: Gate>(
     let mut sets = Vec::new(alloc);
     let mut notes = Vec::with_capacity(alloc, filters.len())?;
     for filter in filters {
-        if filter.cached {
-            let (set, note) = cached_set(alloc, cells, &filter.query, probe, gate, caller)?;
-            sets.push(set)?;
-            notes.push(note)?;
-        } else {
-            notes.push(Note::Bypassed)?;
-        }
+        let note = noted(alloc, cells, filter, &mut sets, probe, gate, caller)?;
+        notes.push(note)?;
     }
     Ok((sets, notes))
+}
+
+// Puts the set of a filter that may be cached behind the others, and gives the filter's note.
+fn noted<P: Reads, G: Gate>(
+    alloc: Global,
+    cells: &mut FilterCells,
+    filter: &Filter,
+    sets: &mut Vec<Arc<DocSet>>,
+    probe: &mut P,
+    gate: &G,
+    caller: u32,
+) -> Result<Note, NoMemory>
+    requires fits { FiltersFit (P.view probe.old) cells.old.kept.size cells.old }
+    ensures fits { FiltersFit (P.view probe.old) cells.old.kept.size cells.new }
+    ensures kept { Kept P.view P.terms P.counted probe.old probe.new }
+    ensures sets { IfOk result (λ _. map arc_value sets.new.items ≡ map arc_value sets.old.items
+        ++ map (λ q. answer q (P.view probe.old)) (queries_of (cached (filter.now ∷ [])))) }
+    ensures note { IfOk result (λ n. IsNote filter.now.cached n) }
+    ensures asked { IfOk result (λ n. AskInTurn (computed_by n filter.now.query)
+        (P.counted probe.old).postings (P.counted probe.new).postings) }
+{
+    if !filter.cached {
+        return Ok(Note::Bypassed);
+    }
+    let (set, note) = cached_set(alloc, cells, &filter.query, probe, gate, caller)?;
+    sets.push(set)?;
+    Ok(note)
 }
 
 // The set of a filter that may be cached: the one that is kept, or else a new one, which is kept from then on.

@@ -1,13 +1,14 @@
 //! What the cached filters, the main query and the other filters have in common, and the result that is made of it.
-ghost use Rattle.std.specs.Prelude.{◌≡◌, ◌+◌, ◌≤◌, [], ◌∷◌, IfOk, length, map, true, option_map};
+ghost use Rattle.std.specs.Prelude.{◌≡◌, ◌+◌, ◌≤◌, ◌++◌, [], ◌∷◌, IfOk, List, Some, length, map, true, option_map};
 ghost use Rattle.std.specs.Arc.{arc_value};
 ghost use Rattle.std.specs.FinSet.{len};
 ghost use Rattle.std.specs.FinSet as set;
+ghost use Rattle.doc_sets.specs.Sets.{Numbers};
 ghost use Rattle.query_eval.specs.Kept.{Kept};
 ghost use Rattle.result_cache.specs.Entries.{serves};
 ghost use Rattle.segment_postings.specs.Numbered.{numbers};
 ghost use Rattle.sort_window.specs.First.{AreLive, first_numbers};
-ghost use Rattle.searcher_core.specs.Meeting.{HasMet, IsCommonOf, left_of};
+ghost use Rattle.searcher_core.specs.Meeting.{HasMet, IsCommonOf, IsFirstWindow, left_of};
 ghost use Rattle.searcher_core.specs.Searches.{IsByCost, queries_of, uncached};
 
 use doc_sets::DocSet;
@@ -25,14 +26,26 @@ use std::sync::Arc;
 pub(crate) fn common(alloc: Global, sets: &[Arc<DocSet>]) -> Result<Option<Arc<DocSet>>, NoMemory>
     ensures { IfOk result (λ s. IsCommonOf (map arc_value sets.now) (option_map arc_value s)) }
 {
-    let mut common: Option<Arc<DocSet>> = None;
+    let mut common = None;
     for set in sets {
-        common = Some(match common {
-            None => Arc::clone(set)?,
-            Some(left) => both(alloc, &left, set)?,
-        });
+        common = Some(in_common(alloc, common, set)?);
     }
     Ok(common)
+}
+
+// The numbers that a set has too.
+fn in_common(
+    alloc: Global,
+    common: Option<Arc<DocSet>>,
+    set: &Arc<DocSet>,
+) -> Result<Arc<DocSet>, NoMemory>
+    ensures { IfOk result (λ s. (sets : List Numbers) → IsCommonOf sets (option_map arc_value common)
+        → IsCommonOf (sets ++ arc_value set.now ∷ []) (Some (arc_value s))) }
+{
+    match common {
+        None => Ok(Arc::clone(set)?),
+        Some(left) => both(alloc, &left, set),
+    }
 }
 
 // The numbers that both sets have.
@@ -70,11 +83,10 @@ fn of_all<P: Reads>(alloc: Global, query: &Query, probe: &mut P) -> Result<Arc<D
         (set.from_list (numbers (P.view probe.old))) (arc_value s)
         (P.counted probe.old).postings (P.counted probe.new).postings) }
 {
-    let found = if probe.live().len() == 0 {
-        DocSet::new(alloc)
-    } else {
-        eval(alloc, probe, query)?
-    };
+    if probe.live().len() == 0 {
+        return Ok(Arc::new(alloc, DocSet::new(alloc))?);
+    }
+    let found = eval(alloc, probe, query)?;
     Ok(Arc::new(alloc, found)?)
 }
 
@@ -143,12 +155,14 @@ pub(crate) fn collected<P: Reads>(
     ensures counts { IfOk result (λ e. e.found ≡ len set.now) }
     ensures lists { IfOk result (λ e. e.ids
         ≡ first_numbers (length e.ids) request.now.sort set.now (P.view probe.old)) }
+    ensures window { IfOk result (λ e. IsFirstWindow request.now size set.now (P.view probe.old) e.ids) }
     ensures enough { IfOk result (λ e. serves (request.now.start + request.now.rows) e ≡ true) }
     ensures view { P.view probe.new ≡ P.view probe.old }
     ensures terms { P.terms probe.new ≡ P.terms probe.old }
     ensures postings { (P.counted probe.new).postings ≡ (P.counted probe.old).postings }
     ensures stored { (P.counted probe.new).stored ≡ (P.counted probe.old).stored }
 {
+    let _live = probe.live();
     let most = window(request.start, request.rows, size);
     let ids = first_n(alloc, probe, set, &request.sort, most)?;
     Ok(Entry {

@@ -48,16 +48,38 @@ pub(crate) fn documents<P: Reads>(
     let mut docs = Vec::with_capacity(alloc, numbers.len())?;
     let mut hits = 0;
     for &number in numbers {
-        let doc = match cells.look(number)? {
-            Some(doc) => {
-                hits += 1;
-                doc
-            }
-            None => read(cells, number, probe)?,
-        };
+        let (doc, hit) = document(cells, number, probe)?;
+        hits += hit;
         docs.push(doc)?;
     }
     Ok((docs, hits))
+}
+
+// The document of a number, and 1 where it was kept, else 0.
+fn document<P: Reads>(
+    cells: &mut DocCells,
+    number: DocNo,
+    probe: &mut P,
+) -> Result<(Arc<Doc>, u32), NoMemory>
+    requires live { IsLive (P.view probe.old) number }
+    requires fits { DocumentsFit (P.view probe.old) cells.old.size cells.old }
+    ensures fits { DocumentsFit (P.view probe.old) cells.old.size cells.new }
+    ensures doc { IfOk result (λ r. doc_at (P.view probe.old) number ≡ Some (arc_value r.0)) }
+    ensures hit { IfOk result (λ r. r.1 ≤ 1) }
+    ensures stored { IfOk result (λ r. (P.counted probe.new).stored
+        ≡ raised_by (1 - r.1) (P.counted probe.old).stored) }
+    ensures view { P.view probe.new ≡ P.view probe.old }
+    ensures terms { P.terms probe.new ≡ P.terms probe.old }
+    ensures postings { (P.counted probe.new).postings ≡ (P.counted probe.old).postings }
+    ensures values { (P.counted probe.new).values ≡ (P.counted probe.old).values }
+{
+    match cells.look(number)? {
+        Some(doc) => Ok((doc, 1)),
+        None => {
+            let doc = read(cells, number, probe)?;
+            Ok((doc, 0))
+        }
+    }
 }
 
 // A document that is not kept: it is read, and kept from then on.

@@ -57,6 +57,8 @@ pub fn serve<P: Reads, G: Gate>(
     ensures view { P.view probe.new ≡ P.view probe.old }
     ensures terms { P.terms probe.new ≡ P.terms probe.old }
 {
+    // What is known of a view is known from here on: its documents' numbers ascend.
+    let _live = probe.live();
     let sizes = searcher.sizes();
     let given = result_of(
         alloc,

@@ -11,7 +11,9 @@ use Rattle.script_form.specs.declared.config.Config.{Config}
 use Rattle.search_model.specs.Answer.{Asked}
 use Rattle.run_laws.specs.CallReadings.{asked_by, defaults_of, query_of}
 use Rattle.run_history.specs.Tellings.{an_answer}
-use Rattle.client_runner.specs.Standings.{standing}
+use Rattle.served_index.specs.IndexState.{IndexState}
+use Rattle.client_runner.specs.declared.runner.Runner.{Runner}
+use Rattle.client_runner.specs.Standings.{acquired, standing}
 use Rattle.run_laws.specs.Bounds.{is_query}
 use Rattle.client_runner.specs.Views.{request_view, verb_view}
 use Rattle.client_runner.proofs.Answered.{answered_follows, refusal_answers, wants_query}
@@ -28,7 +30,7 @@ by_defaults config body d same = ap (λ x. result_map_both an_answer (λ m. m) (
 
 -- the fault is the first one, and no want of memory
 pub returns-in-Err-clause-ok : goal.returns-in-Err-clause-ok
-returns-in-Err-clause-ok c =
+returns-in-Err-clause-ok g c =
     refusal_answers c.args.config.now c.args.head c.args.body.now (standing c.args.self.now) (request_message c.in-Err.fault) c.refused_row.result (is_no_memory c.in-Err.fault)
     c.refused_row.ensures.fault c.refused_row.ensures.row
     (λ known.
@@ -36,9 +38,13 @@ returns-in-Err-clause-ok c =
     wants_query c.args.config.now c.args.head c.args.body.now c.requires.verb ∙ by_defaults c.args.config.now c.args.body.now c.defaults.result c.defaults.ensures
     ∙ ap (λ r. result_map_both an_answer (λ m. m) (query_told r)) told)
 
+-- the caches may change, and nothing else that is told of a run
+same_index : (r : Runner) (index : IndexState) → index ≡ r.index → standing (record r { index = index }) ≡ standing r
+same_index r index same = ap (λ (k : IndexState). standing (record r { index = k })) same
+
 -- it is answered
 pub returns-clause-ok : goal.returns-clause-ok
-returns-clause-ok c =
+returns-clause-ok g c =
     answered_follows c.args.config.now c.args.head c.args.body.now (standing c.args.self.now) c.in_ok-reply.reply (request_view c.row.result)
     (asked_by c.in-Ok.request) c.in-Ok.request c.args.self.now.current.generation c.acquire-ticket.result (standing c.acquire-ticket.new.self)
     c.row.ensures refl c.acquire-ticket.ensures.ticket c.in_ok-reply.ensures.shown c.in_ok-reply.ensures.notes
@@ -46,4 +52,4 @@ returns-clause-ok c =
     (ap (λ d. request_of c.args.config.now.schema.list d (params_of c.args.body.now)) (sym c.defaults.ensures) ∙ c.in-Ok.ensures.request)
     (wants_query c.args.config.now c.args.head c.args.body.now c.requires.verb ∙ by_defaults c.args.config.now c.args.body.now c.defaults.result c.defaults.ensures
     ∙ ap (λ r. result_map_both an_answer (λ m. m) (query_told r)) c.in-Ok.ensures.request)
-    c.acquire-ticket.ensures.acquired
+    (c.acquire-ticket.ensures.acquired ∙ ap acquired (same_index c.args.self.now c.found_reply.new.index c.in_ok-reply.ensures.stays))

@@ -10,7 +10,7 @@ use Rattle.client_runner.proofs.runner.Runner.serve.Goals.{in-Ok, in-Err+in_ok-n
 
 -- the request was answered, or there was no memory for it
 pub returns-clause-follows : goal.returns-clause-follows
-returns-clause-follows c =
+returns-clause-follows g c =
     let reserved : standing (record c.args.self.now { rows = c.reserve.new.self }) ≡ standing c.args.self.now =
     same_rows (standing c.args.self.now) c.args.self.now.rows.items c.reserve.new.self.items c.in_ok-reserve.ensures.items in
     let pushed : standing (record c.answer.new.self { rows = c.push.new.self }) ≡ told_too (standing c.answer.new.self) (request_view c.match-answer.row) =
@@ -33,6 +33,6 @@ returns-clause-follows c =
 
 -- the row takes no number
 pub returns-clause-ready : goal.returns-clause-ready
-returns-clause-ready c config n h =
+returns-clause-ready g c config n h =
     ready_kept config n c.answer.new.self (record c.answer.new.self { rows = c.push.new.self }) refl refl refl refl refl
     (c.answer.ensures.ready config n (ready_kept config (n + 1) c.args.self.now (record c.args.self.now { rows = c.reserve.new.self }) refl refl refl refl refl h))

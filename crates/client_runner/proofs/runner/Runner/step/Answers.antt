@@ -9,7 +9,7 @@ use Rattle.client_runner.proofs.runner.Runner.step.Goals.{in-Add, in-Delete, in-
 
 -- the line's request is the one that is served
 pub returns-clause-follows : goal.returns-clause-follows
-returns-clause-follows c =
+returns-clause-follows g c =
     let asked : call_as c.args.phase c.args.line.now.number c.args.line.now.what
     ≡ Some (call_of (record { phase = c.args.phase; client = c.match-line.client.0; line = c.args.line.now.number; verb = c.match-line.client.1 }) c.match-line.client.2.now) =
     elim c.match-line.branch [

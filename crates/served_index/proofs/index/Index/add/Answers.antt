@@ -4,8 +4,10 @@ use Rattle.std.specs.Arc.{arc_value}
 use Rattle.doc_model.specs.Document.{IsIdAt}
 use Rattle.doc_sets.specs.declared.TheConstants.{MAX_DOCS}
 use Rattle.search_model.specs.Live.{added, after, has_id}
+use Rattle.segment_postings.specs.Numbered.{IsNumbered}
+use Rattle.segment_postings.specs.Views.{Indexed}
 use Rattle.served_index.specs.IndexState.{IndexState}
-use Rattle.served_index.specs.Standing.{AreBelow, HaveIds}
+use Rattle.served_index.specs.Standing.{AreBelow, HaveIds, numbers_where}
 use Rattle.served_index.proofs.Indexing.{docs-added, AreBelow-joined, HaveIds-added, IsIndex-changed}
 use Rattle.served_index.proofs.index.Index.add.Goals as goal
 use Rattle.served_index.proofs.index.Index.add.Goals.{After-drop-found-in-Ok, After-truncate}
@@ -20,7 +22,7 @@ invariant_of-self-in-Ok c =
     let room : v.size + old.slots < MAX_DOCS = subst (λ (k : IndexState). k.numbers < MAX_DOCS) (sym c.self.view_is) c.requires.room in
     let more : c.put.new.self.slots ≤ old.slots + 1 = c.in-Ok.ensures.slots in
     IsIndex-changed v c.self.inside.gone.items c.extend_from_slice.new.self.items old c.put.new.self c.self.inside.key c.self.invariant
-    (AreBelow-joined (has_id c.id.result.now) v c.self.inside.gone.items c.extend_from_slice.new.self.items c.in_ok-found.found.items c.in_ok-found.ensures.numbered c.self.invariant.below c.in_ok-found.ensures.found (joined c))
+    (AreBelow-joined (has_id c.id.result.now) v c.self.inside.gone.items c.extend_from_slice.new.self.items c.in_ok-found.found.items (subst (λ (w : Indexed). IsNumbered w.seen) c.deref.ensures c.in_ok-found.ensures.numbered) c.self.invariant.below (c.in_ok-found.ensures.found ∙ ap (λ (w : Indexed). numbers_where (has_id c.id.result.now) w.seen.list) c.deref.ensures) (joined c))
     (HaveIds-added old.docs c.put.new.self.docs c.args.doc c.self.inside.key c.self.invariant.pending_ids
     (subst (λ (k : IndexState). IsIdAt c.args.doc k.key) (sym c.self.view_is) c.requires.id)
     (c.in-Ok.ensures.ok ∙ ap (λ d. after old.docs (added d)) c.in_ok-doc.ensures.ok))
@@ -45,6 +47,6 @@ invariant_of-self-in-Err c =
 pub returns-in-Ok-clause-ok : goal.returns-in-Ok-clause-ok
 returns-in-Ok-clause-ok c =
     docs-added (arc_value c.self.inside.current).seen c.self.inside.gone.items c.extend_from_slice.new.self.items c.in_ok-found.found.items c.self.inside.pending.docs c.put.new.self.docs c.id.result.now c.args.doc
-    c.in_ok-found.ensures.numbered (c.id.ensures ∙ ap (λ d. d.id) (c.deref.ensures ∙ c.in_ok-doc.ensures.ok)) c.in_ok-found.ensures.found (joined c)
+    (subst (λ (w : Indexed). IsNumbered w.seen) c.deref.ensures c.in_ok-found.ensures.numbered) (c.id.ensures ∙ ap (λ d. d.id) (c.deref-2.ensures ∙ c.in_ok-doc.ensures.ok)) (c.in_ok-found.ensures.found ∙ ap (λ (w : Indexed). numbers_where (has_id c.id.result.now) w.seen.list) c.deref.ensures) (joined c)
     (c.in-Ok.ensures.ok ∙ ap (λ d. after c.self.inside.pending.docs (added d)) c.in_ok-doc.ensures.ok)
     ∙ ap (λ (k : IndexState). after k.docs (added c.args.doc)) c.self.view_is
