@@ -1,4 +1,5 @@
 //! The rows, each by its first word.
+use crate::door::KeptDoor;
 use crate::growing::Growing;
 use crate::{asking, reading, serving};
 use doc_model::Doc;
@@ -11,13 +12,14 @@ use sort_window::window;
 use std::alloc::Global;
 use std::test::Fail;
 
-// What the rows speak of: a schema, a view, and an index.
+// What the rows speak of: a schema, a view, an index, and a door to one of its searchers.
 #[derive(Drop)]
 pub(crate) struct Desk {
     alloc: Global,
     schema: Schema,
     growing: Growing,
     index: Index,
+    door: Option<KeptDoor>,
 }
 
 impl Desk {
@@ -29,6 +31,7 @@ impl Desk {
             schema,
             growing: Growing::new(alloc)?,
             index,
+            door: None,
         })
     }
 
@@ -40,7 +43,11 @@ impl Desk {
             return Ok(told);
         }
         told.push_str(" =>")?;
-        self.answer(verb, rest, &mut told)?;
+        match verb.as_bytes() {
+            b"serve" => self.serve(rest, false, &mut told)?,
+            b"count" => self.serve(rest, true, &mut told)?,
+            _ => self.answer(verb, rest, &mut told)?,
+        }
         Ok(told)
     }
 
@@ -71,7 +78,8 @@ impl Desk {
             b"delete_query" => {
                 serving::delete_query(alloc, &self.schema, &mut self.index, rest)?;
             }
-            b"commit" => self.index.open(alloc)?,
+            b"commit" => serving::commit(alloc, &mut self.index)?,
+            b"searcher" => self.door = Some(serving::searcher(alloc, &self.index, rest)?),
             _ => return Ok(false),
         }
         Ok(true)
@@ -102,6 +110,18 @@ impl Desk {
             b"page" => serving::tell_page(alloc, &self.schema, &self.index, rest, told),
             _ => Err(Fail::new("no verb")),
         }
+    }
+
+    // Adds what the searcher of the kept door serves, and how often its view was read for it where that is wanted.
+    fn serve(&mut self, params: &str, counts_too: bool, told: &mut String) -> Result<(), Fail> {
+        let request = reading::request(self.alloc, &self.schema, params)?;
+        let door = self.door.as_mut().ok_or("no searcher")?;
+        let (served, counts) = door.serve(self.alloc, &request)?;
+        serving::tell_served(self.alloc, &served, told)?;
+        if counts_too {
+            serving::tell_counts(self.alloc, counts, told)?;
+        }
+        Ok(())
     }
 
     fn query(&self, op: Op, text: &str) -> Result<Query, Fail> {

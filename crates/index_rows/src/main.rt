@@ -4,6 +4,7 @@
 
 mod asking;
 mod desk;
+mod door;
 mod growing;
 mod reading;
 mod serving;
