@@ -1,8 +1,12 @@
 #!/usr/bin/env python3
-"""Writes `stdin` and `stdout` of crates/index_rows: tables settled by hand, and drawn rows answered by `search_rules`."""
+"""Writes `stdin` and `stdout` of crates/index_rows: tables settled by hand, and drawn rows answered by `search_rules` and
+`searcher_rules`."""
 import random
+from dataclasses import replace
+from urllib.parse import quote_plus
 
 import search_rules as rules
+from searcher_rules import Filter, Request, Searcher, asks
 from transcript import Transcript, compact
 
 table = Transcript("index_rows")
@@ -398,6 +402,176 @@ def searchers():
         table.ask(f"page {start} {rows} | {text}", f" {count}:{listed(page.split())}")
 
 
+# ---- Requests that caches of a searcher serve, by hand.
+
+PLATES = """{"id":"a","cat":"x","price":5,"t":"Red apple pie"}
+{"id":"b","cat":"y","price":7,"t":"green apple"}
+{"id":"c","cat":"x","price":9}
+{"id":"d","price":5,"t":"apple, red"}"""
+FIFTH = '{"id":"e","price":1}'
+
+# A title, the documents, the sizes (filters, results, documents, window, longest result), and rows: the parameters, how
+# many are found and the page, what the result cache did, and the filter cache for each filter, how many documents were
+# kept; and where the rules say so, the postings, the sort values and the documents that are read.
+SERVED = [
+    (
+        "A result lists whole windows, also where the page has no document.",
+        PLATES,
+        "8 8 8 2 8",
+        """q=*:*&rows=0 => 4:; computed [] 0; 0 0 0
+q=*:*&start=5&rows=2 => 4:; computed [] 0; 0 0 0
+q=*:*&rows=3 => 4: a b c; hit [] 0; 0 0 3""",
+    ),
+    (
+        "One that is too short is not served, and gives way to the longer one.",
+        PLATES,
+        "8 8 8 2 8",
+        """q=*:*&rows=1 => 4: a; computed [] 0; 0 0 1
+q=*:*&rows=2 => 4: a b; hit [] 1; 0 0 1
+q=*:*&rows=3 => 4: a b c; computed [] 2; 0 0 1
+q=*:*&rows=4 => 4: a b c d; hit [] 3; 0 0 1
+q=*:*&start=2&rows=100 => 4: c d; hit [] 2; 0 0 0
+q=cat:x&rows=2 => 2: a c; computed [] 2; 1 0 0
+q=cat:x&rows=100 => 2: a c; hit [] 2; 0 0 0""",
+    ),
+    (
+        "Five documents are more than four: the result isn't kept.",
+        f"{PLATES}\n{FIFTH}",
+        "8 8 8 2 4",
+        """q=*:*&rows=5 => 5: a b c d e; computed [] 0; 0 0 5
+q=*:*&rows=5 => 5: a b c d e; computed [] 5; 0 0 0
+q=*:*&rows=4 => 5: a b c d; computed [] 4; 0 0 0
+q=*:*&rows=4 => 5: a b c d; hit [] 4; 0 0 0
+q=*:*&rows=5 => 5: a b c d e; computed [] 5; 0 0 0
+q=*:*&rows=4 => 5: a b c d; hit [] 4; 0 0 0""",
+    ),
+    (
+        "A window of six lists all five.",
+        f"{PLATES}\n{FIFTH}",
+        "8 8 8 6 4",
+        """q=*:*&rows=1 => 5: a; computed [] 0; 0 0 1
+q=*:*&rows=1 => 5: a; computed [] 1; 0 0 0""",
+    ),
+    (
+        "Four are kept.",
+        PLATES,
+        "8 8 8 6 4",
+        """q=*:*&rows=5 => 4: a b c d; computed [] 0; 0 0 4
+q=*:*&rows=5 => 4: a b c d; hit [] 4; 0 0 0""",
+    ),
+    (
+        "Two filters are kept, and two results.",
+        PLATES,
+        "2 2 8 2 8",
+        """q=*:*&fq=cat:x => 2: a c; computed [computed] 0; 1 0 2
+q=*:*&fq=cat:y => 1: b; computed [computed] 0; 1 0 1
+q=id:*&fq=cat:x => 2: a c; computed [hit] 2
+q=*:*&fq=price:5 => 2: a d; computed [computed] 1; 1 0 1
+q=id:*&fq=cat:y => 1: b; computed [computed] 1
+q=*:*&fq=price:5 => 2: a d; hit [] 2; 0 0 0
+q=id:*&fq=cat:x => 2: a c; computed [computed] 2""",
+    ),
+    (
+        "Filters past the caches go by cost, ties in their order, until nothing is left.",
+        PLATES,
+        "8 8 8 2 8",
+        """q=*:*&fq={!cache=false+cost=9}cat:x&fq={!cache=false+cost=1}cat:zzz => 0:; computed [bypassed bypassed] 0; 1 0 0
+q=*:*&fq={!cache=false+cost=1}cat:x&fq={!cache=false+cost=9}cat:yyy => 0:; computed [bypassed bypassed] 0; 2 0 0
+q=*:*&fq={!cache=false}cat:x&fq={!cache=false}cat:vvv => 0:; computed [bypassed bypassed] 0; 2 0 0
+q=*:*&fq={!cache=false}cat:www&fq={!cache=false}cat:x => 0:; computed [bypassed bypassed] 0; 1 0 0
+q=*:*&fq={!cache=false+cost=-1}cat:x&fq={!cache=false}cat:uuu => 0:; computed [bypassed bypassed] 0; 2 0 0
+q=price:5&fq={!cache=false}cat:x => 1: a; computed [bypassed] 0; 2 0 1
+q=cat:ttt&fq={!cache=false}cat:x => 0:; computed [bypassed] 0; 1 0 0
+q=price:7&fq={!cache=false}cat:y&fq=cat:y => 1: b; computed [bypassed] 0; 2 0 1""",
+    ),
+    (
+        "All filters that may be cached are evaluated, and the query where they leave something.",
+        PLATES,
+        "8 8 8 2 8",
+        """q=price:5&fq=cat:zzz&fq=cat:x => 0:; computed [computed computed] 0; 2 0 0
+q=price:5&fq=cat:x => 1: a; computed [hit] 0; 1 0 1
+q=price:5&fq={!cost=7}cat:y&fq={!cost=1}cat:x => 0:; computed [computed hit] 0; 1 0 0
+q=price:7&fq=cat:y&fq={!cache=false}cat:x&fq=price:7 => 0:; computed [hit bypassed computed] 0; 3 0 0""",
+    ),
+    (
+        "A result is kept under the query, the set of filters and the sort, whatever may be cached of the filters.",
+        PLATES,
+        "8 8 8 2 8",
+        """q=*:*&fq=cat:x&fq=price:5 => 1: a; computed [computed computed] 0; 2 0 1
+q=*:*&fq=price:5&fq=cat:x&fq=price:5 => 1: a; hit [] 1; 0 0 0
+q=*:*&fq={!cache=false}price:5&fq=cat:x => 1: a; hit [] 1; 0 0 0
+q=price:5&fq=cat:x&fq=*:* => 1: a; computed [hit computed] 1; 1 0 0
+q=*:*&sort=price+desc => 4: c b a d; computed [] 1
+q=*:*&sort=price+desc&start=1&rows=2 => 4: b a; hit [] 2; 0 0 0
+q=*:*&sort=price+asc => 4: a d b c; computed [] 4
+q=*:* => 4: a b c d; computed [] 4; 0 0 0
+q=*:*&fl=id&rows=1 => 4: a; hit [] 1; 0 0 0""",
+    ),
+    (
+        "A query past the caches looks no result up and keeps none; its filters are kept.",
+        PLATES,
+        "8 8 8 2 8",
+        """q={!cache=false}*:* => 4: a b c d; bypassed [] 0; 0 0 4
+q={!cache=false}*:* => 4: a b c d; bypassed [] 4; 0 0 0
+q=*:* => 4: a b c d; computed [] 4; 0 0 0
+q={!cache=false}*:* => 4: a b c d; bypassed [] 4; 0 0 0
+q={!cache=false}*:*&fq=cat:x => 2: a c; bypassed [computed] 2; 1 0 0
+q={!cache=false}price:9&fq=cat:x => 1: c; bypassed [hit] 1; 1 0 0""",
+    ),
+    (
+        "Two documents are kept.",
+        PLATES,
+        "8 8 2 2 8",
+        """q=*:*&rows=4 => 4: a b c d; computed [] 0; 0 0 4
+q=id:d => 1: d; computed [] 1; 1 0 0
+q=id:a => 1: a; computed [] 0; 1 0 1
+q=id:d => 1: d; hit [] 1; 0 0 0
+q=id:c => 1: c; computed [] 0; 1 0 1
+q=*:*&rows=4 => 4: a b c d; hit [] 0; 0 0 4""",
+    ),
+    (
+        "Without documents nothing is evaluated but filters.",
+        "",
+        "8 8 8 2 8",
+        """q=cat:x => 0:; computed [] 0; 0 0 0
+q=cat:x&rows=100 => 0:; hit [] 0; 0 0 0
+q=cat:x&fq=cat:y&fq={!cache=false}cat:x => 0:; computed [computed bypassed] 0; 1 0 0""",
+    ),
+]
+
+
+def ask_served(rows):
+    for row in rows.splitlines():
+        params, answer = row.split(" => ")
+        verb = "count" if answer.count(";") == 2 else "serve"
+        table.ask(f"{verb} {params}", f" {answer}")
+
+
+def open_index(lines):
+    table.step("index")
+    for line in lines.splitlines():
+        table.step(f"add {line}")
+    table.step("commit")
+
+
+def served():
+    for title, lines, sizes, rows in SERVED:
+        table.title(title)
+        open_index(lines)
+        table.step(f"searcher {sizes}")
+        ask_served(rows)
+    table.title("A searcher never changes; the caches of the next one keep nothing yet.")
+    open_index(PLATES)
+    table.step("searcher 8 8 8 2 8")
+    ask_served("q=*:*&fq=price:5 => 2: a d; computed [computed] 0; 1 0 2")
+    table.step("delete a")
+    table.step("add " + FIFTH.replace("1", "5"))
+    table.step("commit")
+    ask_served("q=*:*&fq=price:5 => 2: a d; hit [] 2; 0 0 0")
+    table.step("searcher 8 8 8 2 8")
+    ask_served("q=*:*&fq=price:5 => 2: d e; computed [computed] 0; 1 0 2")
+
+
 # ---- Drawn rows.
 
 WORDS = ["red", "apple", "pie", "green", "grün"]
@@ -603,9 +777,96 @@ def drawn_searchers():
         ask_page(draws, index)
 
 
+def request_text(request):
+    """The parameters of a request."""
+
+    def local(cached, cost):
+        said = [f"cost={cost}"] if cost else []
+        if not cached:
+            said.insert(0, "cache=false")
+        return f"{{!{' '.join(said)}}}" if said else ""
+
+    pairs = [("q", local(request.cached, 0) + query_text(request.query))]
+    pairs += [("fq", local(one.cached, one.cost) + query_text(one.query)) for one in request.filters]
+    pairs += [("start", request.start)] if request.start else []
+    pairs += [("rows", request.rows)] if request.rows != 10 else []
+    pairs += [("sort", sort_text(request.sort))] if request.sort else []
+    return "&".join(f"{name}={quote_plus(str(value), safe='*:{}[]!=,()')}" for name, value in pairs)
+
+
+def again(draws, request):
+    """The request with its filters in another order, and another page."""
+    filters = draws.sample(request.filters, len(request.filters))
+    start, more = draws.choice([0, 0, 0, 1, 2]), draws.choice([-2, -1, 0, 1, 2, 3])
+    return replace(request, filters=filters, start=start, rows=max(0, request.rows + more))
+
+
+def drawn_request(draws, queries):
+    """A request over a few queries, so that many are asked again."""
+
+    def drawn_filter():
+        if draws.random() < 0.7:
+            return Filter(draws.choice(queries), True, draws.choice([0, 0, 0, 3]))
+        return Filter(draws.choice(queries), False, draws.choice([0, 0, 1, 2, -1]))
+
+    def past_caches():
+        return [Filter(query, False, draws.choice([2, 1, 0, -1])) for query in draws.sample(keys, 3)]
+
+    keys = [query for query in queries if asks(query)]
+    filters = [drawn_filter() for _ in range(draws.choice([0, 0, 0, 0, 1, 1, 2, 3]))]
+    return Request(
+        query=draws.choice([("all",), ("all",), ("exists", "cat"), *queries]),
+        cached=draws.random() < 0.85,
+        filters=past_caches() if draws.random() < 0.15 else filters,
+        sort=draws.choice([[], [], [], [], [("price", "desc")], [("cat", "asc"), ("_docid_", "desc")]]),
+        start=draws.choice([0, 0, 0, 0, 1, 3]),
+        rows=draws.choice([0, 1, 1, 2, 3, 4, 6, 10]),
+    )
+
+
+def ask_searcher(searcher, request):
+    told = searcher.serve(request)
+    answer = f" {told.found}:{listed(told.page)}; {told.result} [{' '.join(told.filters)}] {told.hits}"
+    if None in told.counts:
+        table.ask(f"serve {request_text(request)}", answer)
+    else:
+        table.ask(f"count {request_text(request)}", f"{answer}; {' '.join(map(str, told.counts))}")
+
+
+def drawn_service():
+    draws = random.Random(11)
+    index = rules.Index()
+    table.title("Drawn requests that small caches serve.")
+    table.step("index")
+    for _ in range(12):
+        for _ in range(draws.randrange(5, 9)):
+            doc = drawn_doc(draws, f"d{draws.randrange(16)}")
+            table.step("add " + compact(doc))
+            index.add(doc)
+        key = f"d{draws.randrange(16)}"
+        table.step(f"delete {key}")
+        index.delete(key)
+        table.step("commit")
+        index.commit()
+        sizes = [*(draws.randrange(2, 6) for _ in range(3)), draws.randrange(1, 5), draws.choice([2, 4, 6, 8])]
+        table.step(f"searcher {' '.join(map(str, sizes))}")
+        searcher = Searcher(index.served, *sizes)
+        seen = draws.sample(index.served, 4)
+        queries = [("term", "cat", doc.get("cat", "y")) for doc in seen[:2]]
+        queries += [("term", "price", doc.get("price", 0)) for doc in seen[2:]]
+        queries += [("term", "ok", True)]
+        queries += [drawn_telling(draws, 2, lambda query: index.hits(query, [], [])) for _ in range(3)]
+        asked = []
+        for _ in range(35):
+            is_new = not asked or draws.random() < 0.5
+            request = drawn_request(draws, queries) if is_new else again(draws, draws.choice(asked[-5:]))
+            ask_searcher(searcher, request)
+            asked.append(request)
+
+
 def main():
     table.step(compact(rules.schema()))
-    for part in (views, sorts, queries, searchers, drawn_views, drawn_searchers):
+    for part in (views, sorts, queries, searchers, served, drawn_views, drawn_searchers, drawn_service):
         part()
     table.write()
 
