@@ -530,6 +530,29 @@ q=id:c => 1: c; computed [] 0; 1 0 1
 q=*:*&rows=4 => 4: a b c d; hit [] 0; 0 0 4""",
     ),
     (
+        "Each cache keeps one entry; a longer result that isn't kept leaves the shorter one.",
+        PLATES,
+        "1 1 1 1 1",
+        """q=*:*&rows=1 => 4: a; computed [] 0; 0 0 1
+q=*:*&rows=1 => 4: a; hit [] 1; 0 0 0
+q=*:*&rows=2 => 4: a b; computed [] 1; 0 0 1
+q=*:*&rows=1 => 4: a; hit [] 0; 0 0 1
+q=id:b&fq=cat:y => 1: b; computed [computed] 0; 2 0 1
+q=*:*&rows=1 => 4: a; computed [] 0; 0 0 1
+q=*:*&rows=0 => 4:; hit [] 0; 0 0 0
+q=id:b&fq=cat:x&fq=cat:y => 0:; computed [computed computed] 0; 2 0 0""",
+    ),
+    (
+        "The largest sizes and counts, and no query.",
+        PLATES,
+        "4096 4096 4096 4096 4096",
+        """q=*:*&start=2147483647&rows=2147483647 => 4:; computed [] 0; 0 0 0
+q=*:*&start=1&rows=2147483647 => 4: b c d; hit [] 0; 0 0 3
+q=cat:x&rows=2147483647 => 2: a c; computed [] 1; 1 0 1
+fq=cat:x => 0:; computed [computed] 0
+q=&fq=cat:x => 0:; hit [] 0; 0 0 0""",
+    ),
+    (
         "Without documents nothing is evaluated but filters.",
         "",
         "8 8 8 2 8",
