@@ -61,7 +61,7 @@ loop-turn-init g c = record {
   served = subst (Served c.args.config.now []) (sym c.in_ok-runner.ensures.standing_is)
       (subst (λ b. Served c.args.config.now [] (first b)) (sym c.is_acquired_first-listened.ensures) (none_served c.args.config.now c.requires.warming));
   ready = first_ready c.args.config.now c.is_acquired_first-listened.result c.in_ok-runner.runner
-      (subst (λ k. IsFirst k c.is_acquired_first-listened.result c.in_ok-runner.runner) c.key_field.ensures.number c.in_ok-runner.ensures);
+      (subst (λ k. IsFirst k c.is_acquired_first-listened.result c.in_ok-runner.runner) c.key_field-key.ensures.number c.in_ok-runner.ensures);
 }
 
 pub bounds-get-turn : goal.bounds-get-turn
@@ -72,7 +72,7 @@ bounds-get-turn g c =
     (index_within c.args.script.now (get_or c.deref-turn-items.result.now c.loop-turn.turn-index no_turn) (known.turns c.loop-turn.turn-index no_turn c.loop-turn-test.true))
 
 pub step-requires-clause-ready : goal.step-requires-clause-ready
-step-requires-clause-ready g c =
+step-requires-clause-ready g c κs within =
     let known : AreServed c.args.script.now c.deref-turn-items.result.now = are_served c.args.script.now c.get.result.now c.in_ok-turns.turns.items c.deref-turn-items.result.now
     c.get.ensures c.deref-turn-items.ensures.value c.requires.lines c.requires.clients c.in_ok-turns.ensures.same c.in_ok-turns.ensures.rising in
     let few : length c.deref-turn-items.result.now ≤ 100000 = known.few in

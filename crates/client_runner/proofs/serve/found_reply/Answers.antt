@@ -7,6 +7,6 @@ use Rattle.client_runner.proofs.serve.found_reply.Goals as goal
 -- the page and the count are those of the answer
 pub returns-clause-shown : goal.returns-clause-shown
 returns-clause-shown g c =
-    shown_found c.args.config.now c.args.index.old.served c.args.request.now (map arc_value c.in_ok-served.served.docs.items) _
+    shown_found c.args.config.now c.args.index.now.served c.args.request.now (map arc_value c.in_ok-served.served.docs.items) _
     c.in_ok-reply_text.ensures refl c.in_ok-served.ensures.docs c.in_ok-served.ensures.found
     (c.len-docs.ensures ∙ sym (length-map c.in_ok-served.served.docs.items arc_value))

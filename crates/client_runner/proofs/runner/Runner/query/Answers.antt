@@ -1,4 +1,4 @@
-use Rattle.std.proofs.Common.{◌≡◌, sym, ◌∙◌, ap, codes, refl, subst, ℕ, List, length, false, true}
+use Rattle.std.proofs.Common.{◌≡◌, ◌+◌, sym, ◌∙◌, ap, codes, refl, subst, ℕ, List, length, false, true}
 use Rattle.std.specs.Prelude.{Result}
 use Rattle.std.specs.Result.{result_map_both}
 use Rattle.request_form.specs.Messages.{request_message}
@@ -13,6 +13,7 @@ use Rattle.run_laws.specs.CallReadings.{asked_by, defaults_of, query_of}
 use Rattle.run_history.specs.Tellings.{an_answer}
 use Rattle.served_index.specs.IndexState.{IndexState}
 use Rattle.client_runner.specs.declared.runner.Runner.{Runner}
+use Rattle.client_runner.specs.Rooms.{IsReady}
 use Rattle.client_runner.specs.Standings.{acquired, standing}
 use Rattle.run_laws.specs.Bounds.{is_query}
 use Rattle.client_runner.specs.Views.{request_view, verb_view}
@@ -53,3 +54,8 @@ returns-clause-ok g c =
     (wants_query c.args.config.now c.args.head c.args.body.now c.requires.verb ∙ by_defaults c.args.config.now c.args.body.now c.defaults.result c.defaults.ensures
     ∙ ap (λ r. result_map_both an_answer (λ m. m) (query_told r)) c.in-Ok.ensures.request)
     (c.acquire-ticket.ensures.acquired ∙ ap acquired (same_index c.args.self.now c.found_reply.new.index c.in_ok-reply.ensures.stays))
+
+pub returns-clause-ready : goal.returns-clause-ready
+returns-clause-ready g c config n ready =
+    c.acquire-ticket.ensures.ready config n
+    (subst (λ (k : IndexState). IsReady config (n + 1) (record c.args.self.now { index = k })) (sym c.in_ok-reply.ensures.stays) ready)
