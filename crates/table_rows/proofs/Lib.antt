@@ -1,2 +1,3 @@
 mod SeatTrials
+mod Turns
 mod Chain

@@ -57,6 +57,10 @@ module _ {D U W X L : Type 0} where
     pub registrar : IsSameRegistrar r q
     pub places : places_of q ≡ places_of r + 1
 
+-- so many doors, each of which shows this
+abbrev pub AreShowing : {D : Type 0} → (D → ℕ) → ℕ → ℕ → List D → Type 0
+AreShowing shows n count doors = (length doors ≡ count) × AllByRecursion (λ d. shows d ≡ n) doors
+
 -- two doors, each of which shows this
 abbrev pub AreTwo : {D : Type 0} → (D → ℕ) → ℕ → List D → Type 0
 AreTwo shows n doors = (length doors ≡ 2) × AllByRecursion (λ d. shows d ≡ n) doors

@@ -2,6 +2,12 @@
 #![tactic(auto)]
 
 #[cfg(test)]
+mod crowd;
+#[cfg(test)]
+mod desk;
+#[cfg(test)]
+mod publications;
+#[cfg(test)]
 mod seats;
 #[cfg(test)]
 mod table;

@@ -1,37 +1,15 @@
-ghost use Rattle.std.specs.Prelude.{◌≡◌, ◌+◌, ◌≤◌, [], None, length, IfOk, IfErr, IfSome};
+ghost use Rattle.std.specs.Prelude.{◌≡◌, ◌+◌, ◌≤◌, [], None, length, IfOk, IfSome};
 ghost use Rattle.searcher_table.specs.Passes.{mine_of, announced_of};
-ghost use Rattle.searcher_table.specs.Pins.{IsNotAcquired};
 ghost use Rattle.searcher_table.specs.Making.{AreDealt};
 ghost use Rattle.searcher_table.specs.Registrars.{places_of, IsSameRegistrar};
 ghost use Rattle.table_rows.specs.TableTrials.{ArePair, IsReady, HasRoom, HasOneMore, HasNothingOut};
-ghost use Rattle.table_rows.specs.TableTrials.{HasHeld, IsForTwo, HasOneCallMore, HasOneOpeningMore, AreTwo};
+ghost use Rattle.table_rows.specs.TableTrials.{IsForTwo, HasOneCallMore, HasOneOpeningMore, AreTwo};
 
-use searcher_table::{AcquireRefusal, Call, OpenRefusal, Pass, Registrar, Shown, make};
+use crate::desk::{Door, Held, hold};
+use searcher_table::{AcquireRefusal, Call, OpenRefusal, Pass, Registrar, make};
 use std::alloc::Global;
 use std::test::Fail;
 use std::thread::{Threads, join};
-
-// A door that shows a number.
-#[derive(Drop)]
-struct Door {
-    number: u32,
-}
-
-impl Shown for Door {
-    type Setting = u32;
-
-    type Docs = u32;
-
-    type Deed = u32;
-
-    ghost use Rattle.std.specs.Prelude.{[]};
-
-    ghost setting = { λ d. 0 };
-
-    ghost docs = { λ d. d.number };
-
-    ghost list = { λ d. [] };
-}
 
 // Announces an update, has it executed and meets it: the caller has just this entry more, at the place that is answered.
 fn update(
@@ -60,23 +38,6 @@ fn change_of_mind(pass: &mut Pass<Door, u32>, content: u32) -> u32
 {
     let call = pass.announce(Call::Update, content);
     pass.withdraw(call)
-}
-
-// Acquires what is current, if anything is, and releases it: the generation and the ticket. The caller has just these two
-// entries more.
-fn hold(pass: Pass<Door, u32>) -> (Pass<Door, u32>, Result<(u32, u32), AcquireRefusal>)
-    requires { announced_of pass ≡ None }
-    ensures pass { HasNothingOut pass result.0 }
-    ensures held { IfOk result.1 (λ got. HasHeld pass result.0 got.0 got.1) }
-    ensures refused { IfErr result.1 (λ why. IsNotAcquired pass result.0 why) }
-{
-    match pass.acquire() {
-        Ok(pin) => {
-            let got = (pin.generation(), pin.ticket());
-            (pin.release(), Ok(got))
-        }
-        Err((pass, why)) => (pass, Err(why)),
-    }
 }
 
 // The passes of two callers.
@@ -179,8 +140,6 @@ fn calls_have_places_in_one_history(rt: HostRuntime) -> Result<(), Fail> {
     assert_eq!(rt; (right, last), (ROUNDS - 1, 10_002));
     Ok(())
 }
-
-type Held = Result<(u32, u32), AcquireRefusal>;
 
 // What three acquires of a caller that may make two are answered while nothing is current.
 fn three_holds(alloc: Global) -> Option<([Held; 3], Option<(u32, u32)>)> {

@@ -1,7 +1,7 @@
 use Rattle.std.proofs.Common.{ℕ, subst, sym}
 use Rattle.table_rows.specs.TableTrials.{HasHeld}
 use Rattle.table_rows.proofs.Chain.{two_more}
-use Rattle.table_rows.proofs.table.hold.Goals as goal
+use Rattle.table_rows.proofs.desk.hold.Goals as goal
 
 pub returns-in-Ok-clause-pass : goal.returns-in-Ok-clause-pass
 returns-in-Ok-clause-pass c = (two_more c.args.pass c.in-Ok.pin c.release.result c.requires c.in-Ok.ensures.acquired c.release.ensures).0
