@@ -9,4 +9,4 @@ pub returns-clause-shown : goal.returns-clause-shown
 returns-clause-shown g c =
     shown_found c.args.config.now c.args.index.now.served c.args.request.now (map arc_value c.in_ok-served.served.docs.items) _
     c.in_ok-reply_text.ensures refl c.in_ok-served.ensures.docs c.in_ok-served.ensures.found
-    (c.len-docs.ensures ∙ sym (length-map c.in_ok-served.served.docs.items arc_value))
+    (c.len-docs.ensures ∙ c.in_ok-served.served.docs.ok.0 ∙ sym (length-map c.in_ok-served.served.docs.items arc_value))
