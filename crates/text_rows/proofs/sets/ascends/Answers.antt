@@ -4,7 +4,7 @@ use Rattle.doc_sets.specs.Sets.{IsAscending}
 use Rattle.doc_sets.specs.declared.TheConstants.{MAX_DOCS}
 use Rattle.doc_sets.proofs.Rising.{tested_more}
 use Rattle.doc_sets.proofs.Members.{increasing, all_documents}
-use Rattle.base_rows.proofs.sets.ascends.Goals as goal
+use Rattle.text_rows.proofs.sets.ascends.Goals as goal
 
 pub loop-number-preserved : goal.loop-number-preserved
 loop-number-preserved c = tested_more MAX_DOCS c.loop-number.least c.loop-number.number-index c.args.numbers.now (omega arith) c.loop-number.invariant.0 c.loop-number.invariant.1 (omega arith) (omega arith)
