@@ -58,19 +58,19 @@ leaves {W} {U} {X} {L} l asked w id k f free =
           let n : h.caller ≢ c = λ e. none-some h.asked (sym free ∙ ap w.pending (sym e) ∙ g.pending) in
           record { here = put_else c id w.hand_at h.caller n ∙ g.here; pending = put_else c (Some asked) w.pending h.caller n ∙ g.pending };
       freshes = λ j h other g. record { here = g.here; warming = g.warming };
-      registrars = λ j u other g. record { here = g.here; seen = g.seen; next = g.next; nobody = g.nobody; task = g.task };
+      registrars = λ j u other g. record { here = g.here; seen = g.seen; next = g.next; nobody = g.nobody; task = g.task; filling = g.filling };
       backs = λ j o other (g : IsBack w j o).
           let n : o.caller ≢ c = another w id j c o.caller f.here g.here other in
           record { here = g.here; dealt = g.dealt; mine = g.mine; none = put_else c (Some asked) w.pending o.caller n ∙ g.none };
     }
 
-module _ {D W U X L : Type 0} (p : Plan W) where
+module _ {D W U X L : Type 0} (setting : D → W) (docs : D → X) (p : Plan W) where
   abbrev Goes : ℕ → ℕ → Me (Cell D U) (Known W U X L) → ℕ → ℕ → Asked U → State (Cell D U) (Known W U X L) → ℕ → Type 0
-  Goes slots id me i new asked s x = (v : Known W U X L) × (a : Act (Cell D U)) × Valid s.homes me.1 a × Kept p (stepped s i x id me.1 v a)
+  Goes slots id me i new asked s x = (v : Known W U X L) × (a : Act (Cell D U)) × Valid s.homes me.1 a × Kept setting docs p (stepped s i x id me.1 v a)
       × Announced (step slots i 0 new (some (Said asked))) me (slice_index s.words i) (v, carried_after me.1 a)
 
   pub announces : (slots id : ℕ) (me : Me (Cell D U) (Known W U X L)) (i new : ℕ) (asked : Asked U) → i ≡ call_word me.0.caller → 1 ≤ me.0.caller → me.0.caller ≤ 64 → new ≡ code_of asked.call → me.0.announced ≡ None → me.0.back ≡ []
-      → Allows (Kept p) slots id me i (λ n. either (n == 0) new n) (Announced (step slots i 0 new (some (Said asked))) me)
+      → Allows (Kept setting docs p) slots id me i (λ n. either (n == 0) new n) (Announced (step slots i 0 new (some (Said asked))) me)
   announces slots id me i new asked at_word low few is none bare s kept deep at small =
       let w = kept.world in
       let k = me.0 in
@@ -100,6 +100,7 @@ module _ {D W U X L : Type 0} (p : Plan W) where
           words = length-set s.words i new ∙ kept.words;
           world = moved w w.log now hands w.tasks w.fresh_at;
           legal = kept.legal;
+          four = kept.four;
           three = three_words p (state_of (limits p) w.log) (released w.log) w.tasks (few_slots p kept.two.sizes) s.words (set s.words i new) (slots_same s.words (set s.words i new) (subst (λ (n : ℕ). AreSame s.words (set s.words n new)) (sym at_word) (call_beside s.words c new))) kept.three;
           two = two_words p w.log s.words (set s.words i new) (subst (λ (n : ℕ). AreSame s.words (set s.words n new)) (sym at_word) (call_beside s.words c new)) kept.two;
           one = one_after p w w.log now hands w.tasks w.fresh_at id k (Some hand) k.task k.fresh s.words (set s.words i new) s.views kept.one at (leaves (limits p) asked w id k f still.1)

@@ -1,9 +1,10 @@
 -- A table keeps the rule as it is made.
-use Rattle.std.proofs.Common.{◌≡◌, ◌≢◌, ℕ, zero, suc, ◌+◌, ◌-◌, ◌%◌, ◌<◌, ◌≤◌, List, [], ◌∷◌, length-set, set, get_or, get_or-set_same, get_or-set_other, refl, sym, ap, ◌∙◌, subst, inl, ⊎_elim, arith, None}
-use mathlib.Core.Option.{some-injective, some-ne-none}
+use Rattle.std.proofs.Common.{◌≡◌, ◌≢◌, ℕ, zero, suc, ◌+◌, ◌*◌, ◌-◌, ◌%◌, ◌<◌, ◌≤◌, List, [], ◌∷◌, length, length-set, set, get_or, get_or-set_same, get_or-set_other, refl, sym, ap, ◌∙◌, subst, inl, ⊎_elim, arith, None}
+use mathlib.Core.Option.{some, some-injective, some-ne-none}
 use Rattle.std.specs.Prelude.{slice_index, replicate, min, ◌^◌}
 use Rattle.std.specs.Int.{bit_at}
 use Rattle.std.proofs.lemmas.Bool.{cases_lt}
+use Rattle.std.proofs.lemmas.List.{length-map}
 use Rattle.std.proofs.lemmas.Nat.Bits.{bit_at_ones, bit_at_ones_above}
 use Rattle.std.proofs.lemmas.Option.{same_Some, none-some}
 use Rattle.atomic_table.specs.Table.{opening}
@@ -14,6 +15,9 @@ use Rattle.searcher_table.specs.Words.{current_word, mask_word, bit_of, call_wor
 use Rattle.searcher_table.specs.Rule.{World, Fits, Kept, opened}
 use Rattle.searcher_table.proofs.Frame.{Each}
 use Rattle.searcher_table.proofs.Beside.{few_slots}
+use Rattle.atomic_table.proofs.Lists.{some_there}
+use Rattle.searcher_table.specs.Doors.{cell_of}
+use Rattle.searcher_table.proofs.Doors.{cell_below}
 use Rattle.searcher_table.proofs.Slotted.{idle_duty}
 
 -- the first seat of a table, of which it is true what it knows
@@ -61,9 +65,9 @@ module _ (slots : ℕ) (few : slots ≤ 70) where
       (cases_lt slot 64)
 
 module _ {D W U X L : Type 0} where
-  pub opens : (p : Plan W) (cells : List (Cell D U)) → HasSizes p → Kept {D = D} {W = W} {U = U} {X = X} {L = L} p (opening (first_words (p.callers + p.max_warming + 2)) cells (opened p))
-  opens p cells sizes =
-      let w : World U X L = record { log = []; pending = λ _. None; pass_at = λ _. 0; hand_at = λ _. 0; registrar_at = 0; next = 1; tasks = λ _. Idle; fresh_at = λ _. 0 } in
+  pub opens : (setting : D → W) (docs : D → X) (p : Plan W) (cells : List (Cell D U)) → HasSizes p → length cells ≡ (p.callers + p.max_warming + 2) * 64 → Kept {D = D} {W = W} {U = U} {X = X} {L = L} setting docs p (opening (first_words (p.callers + p.max_warming + 2)) cells (opened p))
+  opens setting docs p cells sizes count =
+      let w : World U X L = record { log = []; pending = λ _. None; pass_at = λ _. 0; hand_at = λ _. 0; registrar_at = 0; next = 1; tasks = λ _. Idle; fresh_at = λ _. 0; filling = None } in
       let slots : ℕ = p.callers + p.max_warming + 2 in
       let few = few_slots p sizes in
       let words : List ℕ = first_words slots in
@@ -87,6 +91,12 @@ module _ {D W U X L : Type 0} where
           drained = λ slot g is _ _. absurd (none-some g is);
           alone = λ c d a b g is _. absurd (idle_duty a g is);
         };
+        four = record {
+          size = length-map cells some ∙ (let n = count in omega arith);
+          doors = λ slot g _ is. absurd (none-some g is);
+          spare = λ slot c below _ low within _. (let a = cell_below slot c slots below low (let b = sizes.callers in omega arith) in some_there cells (cell_of slot c) (omega arith));
+          filled = λ c low laid_so. absurd (omega arith);
+        };
         one = record {
           calls = λ c low few. word_else slots (few_slots p sizes) (call_word c) (λ z. absurd (omega arith)) (λ z. absurd (omega arith));
           fits = each_one (Fits p w) (opened p) record {
@@ -96,7 +106,7 @@ module _ {D W U X L : Type 0} where
             pass = λ c. absurd (omega arith);
             hand = λ h e. absurd (none-some h e);
             fresh = λ h e. absurd (none-some h e);
-            registrar = λ _. record { here = refl; seen = record { rest = []; grown = refl; quiet = tt }; next = refl; nobody = refl; task = refl };
+            registrar = λ _. record { here = refl; seen = record { rest = []; grown = refl; quiet = tt }; next = refl; nobody = refl; task = refl; filling = refl };
             back = tt;
           };
           undealt = λ _ _. (refl, refl, refl);
@@ -106,6 +116,6 @@ module _ {D W U X L : Type 0} where
       }
 
   -- by the numbers that were put into the mask words
-  pub opens_with : (p : Plan W) (a b : ℕ) (cells : List (Cell D U)) → HasSizes p → a ≡ 2 ^ min (p.callers + p.max_warming + 2) 64 - 1 → b ≡ 2 ^ (p.callers + p.max_warming + 2 - 64) - 1
-      → Kept {D = D} {W = W} {U = U} {X = X} {L = L} p (opening (set (set (replicate 1168 0) 24 a) 32 b) cells (opened p))
-  opens_with p a b cells sizes low high = subst (λ (z : ℕ × ℕ). Kept {D = D} {W = W} {U = U} {X = X} {L = L} p (opening (set (set (replicate 1168 0) 24 z.0) 32 z.1) cells (opened p))) (λ i. (sym low i, sym high i)) (opens p cells sizes)
+  pub opens_with : (setting : D → W) (docs : D → X) (p : Plan W) (a b : ℕ) (cells : List (Cell D U)) → HasSizes p → length cells ≡ (p.callers + p.max_warming + 2) * 64 → a ≡ 2 ^ min (p.callers + p.max_warming + 2) 64 - 1 → b ≡ 2 ^ (p.callers + p.max_warming + 2 - 64) - 1
+      → Kept {D = D} {W = W} {U = U} {X = X} {L = L} setting docs p (opening (set (set (replicate 1168 0) 24 a) 32 b) cells (opened p))
+  opens_with setting docs p a b cells sizes count low high = subst (λ (z : ℕ × ℕ). Kept {D = D} {W = W} {U = U} {X = X} {L = L} setting docs p (opening (set (set (replicate 1168 0) 24 z.0) 32 z.1) cells (opened p))) (λ i. (sym low i, sym high i)) (opens setting docs p cells sizes count)

@@ -30,8 +30,8 @@ module _ {W U X L : Type 0} where
     back = all_map (IsBack w j) (IsBack (dealt w n) j) (λ o g. record { here = still w n j o.caller g.here g.dealt; dealt = (let d = g.dealt in omega arith); mine = g.mine; none = g.none }) k.back f.back;
   }
 
-  pub deals : {D : Type 0} (p : Plan W) (id : ℕ) (k : Known W U X L) → k.registrar ≡ true → k.next ≤ p.callers → Splits (Kept {D = D} p) id k (keeps_others k) (dealt_out k)
-  deals p id k role left_over s kept at =
+  pub deals : {D : Type 0} (setting : D → W) (docs : D → X) (p : Plan W) (id : ℕ) (k : Known W U X L) → k.registrar ≡ true → k.next ≤ p.callers → Splits (Kept setting docs p) id k (keeps_others k) (dealt_out k)
+  deals setting docs p id k role left_over s kept at =
       let w = kept.world in
       let f = kept.one.fits id k at in
       let r = f.registrar role in
@@ -45,11 +45,12 @@ module _ {W U X L : Type 0} where
         legal = kept.legal;
         two = kept.two;
         three = kept.three;
+        four = kept.four;
         one = record {
           calls = kept.one.calls;
           fits = each_snoc (Fits p v) left (dealt_out k)
               (each_set (Fits p v) s.views id (keeps_others k)
-              (fits_still p w n id (k.next + 1) k (λ _. record { here = r.here; seen = r.seen; next = ap (λ m. m + 1) r.next; nobody = r.nobody; task = r.task }) f)
+              (fits_still p w n id (k.next + 1) k (λ _. record { here = r.here; seen = r.seen; next = ap (λ m. m + 1) r.next; nobody = r.nobody; task = r.task; filling = r.filling }) f)
               (λ j u other e. fits_still p w n j u.next u (λ x. let g = (kept.one.fits j u e).registrar x in absurd (other (sym g.here ∙ r.here))) (kept.one.fits j u e)))
               record {
                 plan = f.plan;

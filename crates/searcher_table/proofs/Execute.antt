@@ -28,6 +28,7 @@ use Rattle.searcher_table.specs.declared.board.Known.{Known}
 use Rattle.searcher_table.specs.declared.board.Task.{Task}
 use Rattle.searcher_table.specs.declared.board.Fresh.{Fresh}
 use Rattle.searcher_table.specs.Tasks.{IsWarming, Three}
+use Rattle.searcher_table.specs.Doors.{shown_after, shown_in, Four}
 use Rattle.searcher_table.specs.Words.{current_word, call_word, code_of, code, limits}
 use Rattle.searcher_table.specs.Views.{Answers, IsStill, WasExecuted, GoesOn, HasNoPlaceSince}
 use Rattle.searcher_table.specs.Rule.{World, IsPass, IsHand, IsFresh, IsRegistrar, IsBack, released, Kept}
@@ -36,6 +37,7 @@ use Rattle.searcher_table.proofs.Frame.{put, put_here, put_else, put_same, moved
 use Rattle.searcher_table.specs.Counts.{releases, NamesCaller}
 use Rattle.searcher_table.proofs.Beside.{AreSame, Apart, call_beside, few_slots, not_counted, two_entry}
 use Rattle.searcher_table.proofs.Slotted.{three_words, slots_same}
+use Rattle.searcher_table.proofs.Doors.{fills_on, four_entry}
 use Rattle.searcher_table.proofs.Turning.{Holds}
 use Rattle.searcher_table.proofs.Handing.{calls_after, other_hand}
 use Rattle.searcher_table.proofs.Quiet.{HasSameOpenings, quiet_since, state_next}
@@ -98,6 +100,7 @@ pub record IsAnswer {W U X L : Type 0} (p : Plan W) (h : Hand U) (e : Entry U X 
   pub answers : Answers h.caller h.asked e
   pub placed : has_place e ≡ true
   pub same : (s : MachineState) → after s e ≡ s
+  pub shows : (f : ℕ → Option X) (g : ℕ) → shown_after f e g ≡ f g
   pub apart : (l : Limits) (log : List (Entry U X L)) → Apart l log e
   pub lasting : (s t : MachineState) → HasSameOpenings s t → IsAllowed (limits p) s e → IsAllowed (limits p) t e
 
@@ -107,6 +110,7 @@ module _ {W U X L : Type 0} (p : Plan W) (h : Hand U) where
     answers = record { caller = refl; content = refl; call = ap (λ x. Some x) (sym is) };
     placed = refl;
     same = λ _. refl;
+    shows = λ _ _. refl;
     apart = λ l log. record { current = refl; acquired = λ _. refl; stays = λ _ _ _ is. is; early = refl; acquire = refl; released = λ _. refl };
     lasting = λ s t o a. record { full = ap length o.warming ∙ a.full; told = a.told ∙ sym o.warming };
   }
@@ -116,6 +120,7 @@ module _ {W U X L : Type 0} (p : Plan W) (h : Hand U) where
     answers = record { caller = refl; content = refl; call = ap (λ x. Some x) (sym is) };
     placed = refl;
     same = λ _. refl;
+    shows = λ _ _. refl;
     apart = λ l log. record { current = refl; acquired = λ _. refl; stays = λ _ _ _ is. is; early = refl; acquire = refl; released = λ _. refl };
     lasting = λ s t o a. record { room = subst (λ (gs : List ℕ). length gs < p.max_warming) (sym o.warming) a.room; last = o.last ∙ a.last };
   }
@@ -129,25 +134,27 @@ is_answer p seen h ToUpdate is = record {
   answers = record { caller = refl; content = refl; call = ap (λ x. Some x) (sym is) };
   placed = refl;
   same = λ _. refl;
+  shows = λ _ _. refl;
   apart = λ l log. record { current = refl; acquired = λ _. refl; stays = λ _ _ _ is. is; early = refl; acquire = refl; released = λ _. refl };
   lasting = λ s t o a. tt;
 }
 is_answer p seen h ToOpen is = let gs : List ℕ = (state_of (limits p) seen).warming in refusal p h gs is (length gs == p.max_warming)
 
-module _ {D W U X L : Type 0} (p : Plan W) where
+module _ {D W U X L : Type 0} (setting : D → W) (docs : D → X) (p : Plan W) where
   -- what a call's step leaves of the slots, by its entry, what the registrar has begun then, and which warming generation it can publish
-  pub record Places (s : State (Cell D U) (Known W U X L)) (kept : Kept p s) (id i : ℕ) (k : Known W U X L) (e : Entry U X L) (task : Task) (fresh : Option Fresh) : Type 0 where
+  pub record Places (s : State (Cell D U) (Known W U X L)) (kept : Kept setting docs p s) (id i : ℕ) (k : Known W U X L) (e : Entry U X L) (task : Task) (fresh : Option Fresh) : Type 0 where
     pub fresh_at : ℕ → ℕ
     pub three : Three p (state_of (limits p) (kept.world.log ++ e ∷ [])) (released (kept.world.log ++ e ∷ [])) (put 0 task kept.world.tasks 0) (put 0 task kept.world.tasks) (set s.words i 0)
+    pub four : Four setting docs p (state_of (limits p) (kept.world.log ++ e ∷ [])) (shown_in (kept.world.log ++ e ∷ [])) (put 0 task kept.world.tasks 0) kept.world.filling s.homes
     pub others : (j : ℕ) (f : Fresh) → j ≢ id → IsFresh kept.world j (limits p) f → Holds p fresh_at (kept.world.log ++ e ∷ []) j f
     pub own : (f : Fresh) → fresh ≡ Some f → Holds p fresh_at (kept.world.log ++ e ∷ []) id f
 
   pub executes : (slots id : ℕ) (me : Me (Cell D U) (Known W U X L)) (i : ℕ) (f : ℕ → ℕ) (h : Hand U) (e : Entry U X L) (task : Task) (fresh : Option Fresh) → i ≡ call_word h.caller → 1 ≤ h.caller → h.caller ≤ 64 → f (code_of h.asked.call) ≡ 0 → me.0.hand ≡ Some h → me.0.registrar ≡ true
       → Answers h.caller h.asked e → MayCome p me.0 e
       → ((log : List (Entry U X L)) → Legal (limits p) log → AllByRecursion NamesCaller log → IsAllowed (limits p) (state_of (limits p) log) e → Apart (limits p) log e)
-      → ((s : State (Cell D U) (Known W U X L)) (kept : Kept p s) → get_elem? s.views id ≡ some me.0 → IsAllowed (limits p) (state_of (limits p) kept.world.log) e → Places s kept id i me.0 e task fresh)
+      → ((s : State (Cell D U) (Known W U X L)) (kept : Kept setting docs p s) → get_elem? s.views id ≡ some me.0 → IsAllowed (limits p) (state_of (limits p) kept.world.log) e → Places s kept id i me.0 e task fresh)
       → (then : ℕ → Me (Cell D U) (Known W U X L) → Type 0) → ((n : ℕ) (new : Me (Cell D U) (Known W U X L)) → HasExecuted e task fresh me new → then n new)
-      → Allows (Kept p) slots id me i f then
+      → Allows (Kept setting docs p) slots id me i f then
   executes slots id me i f h e task fresh at_word low few zero has role answers may apart places then tells s kept deep at small =
       let w = kept.world in
       let k = me.0 in
@@ -166,13 +173,14 @@ module _ {D W U X L : Type 0} (p : Plan W) where
         new.0,
         keeps,
         tt,
-        subst (λ (x : ℕ). Kept p (stepped s i x id me.1 new.0 keeps)) (sym found) record {
+        subst (λ (x : ℕ). Kept setting docs p (stepped s i x id me.1 new.0 keeps)) (sym found) record {
           words = length-set s.words i 0 ∙ kept.words;
           world = moved w log now w.hand_at tasks z.fresh_at;
           legal = legal;
           two = two_entry p w.log e s.words (set s.words i 0) (subst (λ (n : ℕ). slice_index (set s.words n 0) current_word ≡ slice_index s.words current_word) (sym at_word) (call_beside s.words c 0 current_word (omega arith)))
               (apart w.log kept.legal kept.two.named allowed) (subst (λ (o : Option ℕ). IfSome o (λ n. (1 ≤ n) × (n ≤ 64))) (sym answers.caller) (low, few)) kept.two;
           three = z.three;
+          four = z.four;
           one = one_after p w log now w.hand_at tasks z.fresh_at id k None task fresh s.words (set s.words i 0) s.views kept.one at
               (leaves w h e answers W (limits p) id tasks z.fresh_at r.here hand.here hand.pending (λ j d away some there. put_else 0 task w.tasks d (λ same. absurd (omega arith))) z.others)
               (λ d l g. subst (λ (n : ℕ). slice_index (set s.words n 0) (call_word d) ≡ code (now d)) (sym at_word) (calls_after s.words w.pending c 0 None kept.words few refl kept.one.calls d l g))
@@ -198,7 +206,7 @@ module _ {D W U X L : Type 0} (p : Plan W) where
 
   -- a call that opens nothing has its entry, which may come next after what the registrar has seen
   pub answers : (slots id : ℕ) (me : Me (Cell D U) (Known W U X L)) (i : ℕ) (h : Hand U) → i ≡ call_word h.caller → 1 ≤ h.caller → h.caller ≤ 64 → me.0.hand ≡ Some h → me.0.registrar ≡ true → me.0.plan ≡ Some p
-      → IsAllowed (limits p) (state_of (limits p) me.0.seen) (answer_of h.asked.call p me.0.seen h) → Allows (Kept p) slots id me i (λ _. 0) (λ _. Executed (step slots i 0 0 maybe.none) me 0)
+      → IsAllowed (limits p) (state_of (limits p) me.0.seen) (answer_of h.asked.call p me.0.seen h) → Allows (Kept setting docs p) slots id me i (λ _. 0) (λ _. Executed (step slots i 0 0 maybe.none) me 0)
   answers slots id me i h at_word low few has role told may =
       let e : Entry U X L = answer_of h.asked.call p me.0.seen h in
       let l = limits p in
@@ -222,6 +230,8 @@ module _ {D W U X L : Type 0} (p : Plan W) where
             let y : Three p (state_of l log) (released log) (w.tasks 0) w.tasks (set s.words i 0) =
             subst (λ (z : MachineState × (ℕ → ℕ)). Three p z.0 z.1 (w.tasks 0) w.tasks (set s.words i 0)) (λ j. (sym state j, λ g. sym (not_counted (releases g) w.log e ((a.apart l w.log).released g)) j)) words in
             subst (λ (z : ℕ → Task). Three p (state_of l log) (released log) (z 0) z (set s.words i 0)) (λ j c. sym (still c) j) y);
+        four = four_entry setting docs p w.log e (w.tasks 0) (put 0 me.0.task w.tasks 0) w.filling s.homes (λ b. ap (λ (z : MachineState). z.slots b) (a.same (state_of l w.log))) (λ c. ap (λ (z : MachineState). z.pins c) (a.same (state_of l w.log))) a.shows
+            (fills_on (w.tasks 0) (put 0 me.0.task w.tasks 0) (still 0)) kept.four;
         others = λ j g away i. (i.here, warm g i.warming);
         own = λ g is. let i = f.fresh g is in (i.here, warm g i.warming);
       })

@@ -157,7 +157,7 @@ module _ {W U X L : Type 0} where
       pass = λ c. record { here = (f.pass c).here; dealt = (f.pass c).dealt; calls = inl record { mine = refl; announced = refl }; task = own.begun (inl c) };
       hand = own.hands;
       fresh = own.freshes;
-      registrar = λ r. record { here = (f.registrar r).here; seen = record { rest = []; grown = sym (append-nil log); quiet = tt }; next = (f.registrar r).next; nobody = (f.registrar r).nobody; task = own.begun (inr r) ∙ ap tasks (f.registrar r).nobody };
+      registrar = λ r. record { here = (f.registrar r).here; seen = record { rest = []; grown = sym (append-nil log); quiet = tt }; next = (f.registrar r).next; nobody = (f.registrar r).nobody; task = own.begun (inr r) ∙ ap tasks (f.registrar r).nobody; filling = (f.registrar r).filling };
       back = own.backs;
     }
 

@@ -20,7 +20,7 @@ use Rattle.searcher_table.specs.declared.board.Cell.{Cell}
 use Rattle.searcher_table.specs.declared.board.Plan.{Plan}
 use Rattle.searcher_table.specs.declared.board.Known.{Known}
 use Rattle.searcher_table.specs.declared.board.Task.{Task}
-use Rattle.searcher_table.specs.declared.board.Task.TheVariants.{Idle, Found, Claimed, Cleared, Unsettled, Duty}
+use Rattle.searcher_table.specs.declared.board.Task.TheVariants.{Idle, Found, Claimed, Filled, Filling, Unsettled, Duty}
 use Rattle.searcher_table.specs.declared.board.Fresh.{Fresh}
 use Rattle.searcher_table.specs.Words.{word_count, current_word, mask_word, limits}
 use Rattle.searcher_table.specs.Counts.{releases, pinned, NamesCaller}
@@ -36,6 +36,8 @@ use Rattle.searcher_table.proofs.Beside.{Apart, first_within, not_counted, two_e
 use Rattle.searcher_table.proofs.Bits.{with, marked_here, marked_else, slots_beside}
 use Rattle.searcher_table.proofs.Slotted.{three_after, settled_parts}
 use Rattle.searcher_table.proofs.Slotting.{three_freed}
+use Rattle.searcher_table.specs.Doors.{laid, reached, shown_in, Four}
+use Rattle.searcher_table.proofs.Doors.{shown_next, four_freed}
 use Rattle.searcher_table.proofs.Turning.{turns}
 
 -- ---- who can pin
@@ -66,7 +68,8 @@ module _ {W : Type 0} (p : Plan W) (s : State) (own : Task) (rel : ℕ → ℕ) 
   claimed_none Idle slot h e = absurd (none-some slot e)
   claimed_none (Found b) slot h e = absurd (none-some slot e)
   claimed_none (Claimed b) slot h e = ap s.slots (sym (same_Some b slot e)) ∙ h.2
-  claimed_none (Cleared b) slot h e = ap s.slots (sym (same_Some b slot e)) ∙ h.1.none
+  claimed_none (Filled b n) slot h e = ap s.slots (sym (same_Some b slot e)) ∙ h.1.none
+  claimed_none (Filling b n) slot h e = ap s.slots (sym (same_Some b slot e)) ∙ h.1.none
   claimed_none (Unsettled b g total) slot h e = absurd (none-some slot e)
   claimed_none (Duty b g) slot h e = absurd (none-some slot e)
 
@@ -76,10 +79,10 @@ same_of f tasks c slot g same has = dite (ℕ_discrete 0 c)
     (λ z. ap f (ap (put c Idle tasks) z ∙ put_here c Idle tasks) ∙ same ∙ ap f (sym (ap tasks z ∙ has)))
     (λ other. ap f (put_else c Idle tasks 0 other))
 
-module _ {D W U X L : Type 0} (p : Plan W) where
+module _ {D W U X L : Type 0} (setting : D → W) (docs : D → X) (p : Plan W) where
   pub frees : (slots id : ℕ) (me : Me (Cell D U) (Known W U X L)) (i q slot g : ℕ) (f : ℕ → ℕ) → i ≡ mask_word slot → slot < 128 → Acts me.0 → me.0.task ≡ Duty slot g
       → ((words : List ℕ) (long : length words ≡ word_count) (low : slot < 128) (n : ℕ) → f n ≡ with words slot long low n)
-      → Allows (Kept p) slots id me i f (Freed (step slots i q 0 maybe.none) me)
+      → Allows (Kept setting docs p) slots id me i f (Freed (step slots i q 0 maybe.none) me)
   frees slots id me i q slot g f at_word low acts duty is s kept deep at small =
       let w = kept.world in
       let k = me.0 in
@@ -104,6 +107,9 @@ module _ {D W U X L : Type 0} (p : Plan W) where
       (same_of claimed w.tasks c slot g refl own) (same_of unsettled w.tasks c slot g refl own)
       (λ z. none-some g (sym (claimed_none p v (w.tasks 0) (released w.log) s.words (w.tasks 0) slot (kept.three.begun 0) z) ∙ d.opened))
       (marked_here s.words slot kept.words low) (marked_else s.words slot kept.words low) (slots_beside s.words slot x kept.words low)) in
+      let four : Four setting docs p (state_of l log) (shown_in log) (put c Idle w.tasks 0) w.filling s.homes =
+      subst (λ (z : State × (ℕ → Option X)). Four setting docs p z.0 z.1 (put c Idle w.tasks 0) w.filling s.homes) (λ j. (sym next j, λ h. sym (shown_next w.log e h) j))
+      (four_freed setting docs p L v (shown_in w.log) (w.tasks 0) (put c Idle w.tasks 0) g w.filling s.homes may.not_pinned (same_of reached w.tasks c slot g refl own) (same_of laid w.tasks c slot g refl own) kept.four) in
       let kept_slot : (h a : ℕ) → h ≢ g → v.slots a ≡ Some h → (after v e).slots a ≡ Some h = λ h a away z. ap (λ o. cond (is_some_of g o) None o) z ∙ ap (λ t. cond t None (Some h)) (ne_eqb h g away) in
       let apart : Apart l w.log e = record {
         current = refl;
@@ -121,8 +127,9 @@ module _ {D W U X L : Type 0} (p : Plan W) where
         new.0,
         keeps,
         tt,
-        turns p s kept id i (f (slice_index s.words i)) me log (e ∷ []) Idle k.fresh w.fresh_at at acts (omega arith) refl (refl, tt) (inl (refl, tt)) legal two
+        turns setting docs p s kept id i (f (slice_index s.words i)) me log (e ∷ []) Idle k.fresh w.fresh_at keeps at acts (omega arith) refl (refl, tt) (inl (refl, tt)) legal two
             (subst (λ (z : ℕ × ℕ). Three p (state_of l log) (released log) (put c Idle w.tasks 0) (put c Idle w.tasks) (set s.words z.0 z.1)) (λ j. (sym at_word j, sym value j)) three)
+            four
             (λ j h away z. (z.here, warm h z.warming))
             (λ h z. let y = all.fresh h z in (y.here, warm h y.warming)),
         λ a h has. subst (λ (n : ℕ). HasMade (Free n) Idle me new) (ap generation_of (sym duty ∙ has)) record {

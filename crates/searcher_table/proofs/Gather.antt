@@ -29,8 +29,8 @@ module _ {W U X L : Type 0} where
     back = tt;
   }
 
-  pub joins : {D : Type 0} (p : Plan W) (id : ℕ) (k : Known W U X L) (other : ℕ) (o : Known W U X L) → Joins (Kept {D = D} p) id k other o (joined k o) spent
-  joins p id k other o s kept at apart at' =
+  pub joins : {D : Type 0} (setting : D → W) (docs : D → X) (p : Plan W) (id : ℕ) (k : Known W U X L) (other : ℕ) (o : Known W U X L) → Joins (Kept setting docs p) id k other o (joined k o) spent
+  joins setting docs p id k other o s kept at apart at' =
       let w = kept.world in
       let one : List (Known W U X L) = set s.views id (joined k o) in
       let was : get_elem? s.views other ≡ some o = sym (set_else s.views id other (joined k o) apart) ∙ at' in
@@ -52,7 +52,7 @@ module _ {W U X L : Type 0} where
         pass = λ c. let i = f.pass c in record { here = i.here; dealt = i.dealt; calls = i.calls; task = i.task };
         hand = λ h e. to h (g.hand h e);
         fresh = λ h e. give h (g.fresh h e);
-        registrar = λ r. let i = f.registrar r in record { here = i.here; seen = i.seen; next = i.next; nobody = i.nobody; task = i.task };
+        registrar = λ r. let i = f.registrar r in record { here = i.here; seen = i.seen; next = i.next; nobody = i.nobody; task = i.task; filling = i.filling };
         back = all_map (IsBack w id) (IsBack v id) (λ b i. record { here = i.here; dealt = i.dealt; mine = i.mine; none = i.none }) k.back f.back;
       } in
       record {
@@ -61,6 +61,7 @@ module _ {W U X L : Type 0} where
         legal = kept.legal;
         two = kept.two;
         three = kept.three;
+        four = kept.four;
         one = record {
           calls = kept.one.calls;
           fits = each_set (Fits p v) one other spent (spent_fits p v other)

@@ -33,7 +33,7 @@ module _ {W U X L : Type 0} where
     pass = λ c. let g = f.pass c in record { here = g.here; dealt = g.dealt; calls = g.calls; task = g.task };
     hand = hands;
     fresh = freshes;
-    registrar = λ r. let g = f.registrar r in record { here = g.here; seen = g.seen; next = g.next; nobody = g.nobody; task = g.task };
+    registrar = λ r. let g = f.registrar r in record { here = g.here; seen = g.seen; next = g.next; nobody = g.nobody; task = g.task; filling = g.filling };
     back = all_map (IsBack w j) (IsBack v j) (λ o g. record { here = g.here; dealt = g.dealt; mine = g.mine; none = g.none }) k.back f.back;
   }
 
@@ -45,12 +45,12 @@ module _ {W U X L : Type 0} where
     pass = λ c. let g = f.pass c in record { here = g.here; dealt = g.dealt; calls = g.calls; task = g.task };
     hand = λ h e. absurd (none-some h e);
     fresh = λ h e. absurd (none-some h e);
-    registrar = λ r. let g = f.registrar r in record { here = g.here; seen = g.seen; next = g.next; nobody = g.nobody; task = g.task };
+    registrar = λ r. let g = f.registrar r in record { here = g.here; seen = g.seen; next = g.next; nobody = g.nobody; task = g.task; filling = g.filling };
     back = f.back;
   }
 
-  pub splits : {D : Type 0} (p : Plan W) (id : ℕ) (k : Known W U X L) → Splits (Kept {D = D} p) id k (kept_back k) (handed_out k)
-  splits p id k s kept at =
+  pub splits : {D : Type 0} (setting : D → W) (docs : D → X) (p : Plan W) (id : ℕ) (k : Known W U X L) → Splits (Kept setting docs p) id k (kept_back k) (handed_out k)
+  splits setting docs p id k s kept at =
       let w = kept.world in
       let f = kept.one.fits id k at in
       let left : List (Known W U X L) = set s.views id (kept_back k) in
@@ -70,6 +70,7 @@ module _ {W U X L : Type 0} where
         legal = kept.legal;
         two = kept.two;
         three = kept.three;
+        four = kept.four;
         one = record {
           calls = kept.one.calls;
           fits = each_snoc (Fits p v) left (handed_out k)
@@ -93,8 +94,8 @@ module _ {W U X L : Type 0} where
       }
 
   -- splitting a seat off that has only seen as much
-  pub tells_on : {D : Type 0} (p : Plan W) (id : ℕ) (k : Known W U X L) → Splits (Kept {D = D} p) id k (still k) (told_of k)
-  tells_on p id k s kept at =
+  pub tells_on : {D : Type 0} (setting : D → W) (docs : D → X) (p : Plan W) (id : ℕ) (k : Known W U X L) → Splits (Kept setting docs p) id k (still k) (told_of k)
+  tells_on setting docs p id k s kept at =
       let w = kept.world in
       let f = kept.one.fits id k at in
       record {
@@ -103,6 +104,7 @@ module _ {W U X L : Type 0} where
         legal = kept.legal;
         two = kept.two;
         three = kept.three;
+        four = kept.four;
         one = record {
           calls = kept.one.calls;
           fits = each_snoc (Fits p w) (set s.views id k) (told_of k) (each_set (Fits p w) s.views id k f (λ j u _ e. kept.one.fits j u e)) record {

@@ -1,6 +1,5 @@
 -- Executing an opening keeps the rule: it opens the next generation.
-use Rattle.std.proofs.Common.{◌≡◌, ◌≢◌, ℕ, ◌+◌, ◌<◌, ◌≤◌, ◌||◌, cond, eq-eqb, List, [], ◌∷◌, ◌++◌, length, set, true, false, sym, refl, ap, ◌∙◌, subst, arith, Some, None}
-use mathlib.Core.Option.{some}
+use Rattle.std.proofs.Common.{◌≡◌, ◌≢◌, ℕ, ◌+◌, ◌<◌, ◌≤◌, ◌||◌, cond, eq-eqb, List, [], ◌∷◌, ◌++◌, length, set, true, false, sym, refl, ap, ◌∙◌, subst, arith, Option, Some, None}
 use mathlib.Core.Option as maybe
 use prog.Atomic.{either}
 use Rattle.std.specs.Prelude.{◌==◌}
@@ -12,12 +11,11 @@ use Rattle.registry_machine.specs.Legal.{state_of}
 use Rattle.registry_machine.proofs.Lists.{in_append, in_last_here}
 use Rattle.searcher_table.specs.declared.board.Call.TheVariants.{Open as ToOpen}
 use Rattle.searcher_table.specs.declared.board.Cell.{Cell}
-use Rattle.searcher_table.specs.declared.board.Cell.TheVariants.{Full}
 use Rattle.searcher_table.specs.declared.board.Plan.{Plan}
 use Rattle.searcher_table.specs.declared.board.Hand.{Hand}
 use Rattle.searcher_table.specs.declared.board.Known.{Known}
 use Rattle.searcher_table.specs.declared.board.Task.{Task}
-use Rattle.searcher_table.specs.declared.board.Task.TheVariants.{Idle, Cleared}
+use Rattle.searcher_table.specs.declared.board.Task.TheVariants.{Idle, Filled}
 use Rattle.searcher_table.specs.declared.board.Fresh.{Fresh}
 use Rattle.searcher_table.specs.Tasks.{IsWarming, Three}
 use Rattle.searcher_table.specs.Words.{call_word, code_of, limits, last_generation}
@@ -30,28 +28,30 @@ use Rattle.searcher_table.proofs.Standing.{bounded}
 use Rattle.searcher_table.proofs.Beside.{AreSame, call_beside, few_slots, first_within, kept_open, never_released, not_counted, opening_apart}
 use Rattle.searcher_table.proofs.Slotted.{three_words, three_after, slots_same}
 use Rattle.searcher_table.proofs.Slotting.{three_opened}
+use Rattle.searcher_table.specs.Doors.{shown_in, Four}
+use Rattle.searcher_table.proofs.Doors.{shown_next, four_opened}
 use Rattle.searcher_table.proofs.Execute.{executes}
 
--- the door that is said
-abbrev door_or : {D U : Type 0} → D → maybe.Option (Cell D U) → D
-door_or d (maybe.some (Full e)) = e
-door_or d _ = d
+-- what is given, if anything is
+abbrev given_or : {X : Type 0} → X → Option X → X
+given_or x None = x
+given_or x (Some y) = y
 
 in_still : (f g : ℕ) (xs : List ℕ) → is_in f xs ≡ true → is_in f (xs ++ g ∷ []) ≡ true
 in_still f g xs is = in_append f xs (g ∷ []) ∙ ap (λ b. b || (g == f || false)) is
 
-module _ {D W U X L : Type 0} (p : Plan W) where
-  -- an opening has the next generation, in the slot that was cleared
-  pub opens_next : (docs : D → X) (slots id : ℕ) (me : Me (Cell D U) (Known W U X L)) (i : ℕ) (h : Hand U) (slot : ℕ) (door : D) → i ≡ call_word h.caller → 1 ≤ h.caller → h.caller ≤ 64 → me.0.hand ≡ Some h → me.0.registrar ≡ true → me.0.plan ≡ Some p
-      → h.asked.call ≡ ToOpen → me.0.task ≡ Cleared slot → slot < (limits p).slots → (state_of (limits p) me.0.seen).slots slot ≡ None → length (state_of (limits p) me.0.seen).warming < p.max_warming → (state_of (limits p) me.0.seen).last_opened < last_generation
-      → Allows (Kept p) slots id me i (λ n. either (n == 1) 0 n) (Opened docs (step slots i 1 0 (some (Full door))) me)
-  opens_next docs slots id me i h slot door at_word low few has role told is clear below none room left =
+module _ {D W U X L : Type 0} (setting : D → W) (docs : D → X) (p : Plan W) where
+  -- an opening has the next generation, in the slot that was filled
+  pub opens_next : (slots id : ℕ) (me : Me (Cell D U) (Known W U X L)) (i : ℕ) (h : Hand U) (slot n : ℕ) (x : X) → i ≡ call_word h.caller → 1 ≤ h.caller → h.caller ≤ 64 → me.0.hand ≡ Some h → me.0.registrar ≡ true → me.0.plan ≡ Some p
+      → h.asked.call ≡ ToOpen → me.0.task ≡ Filled slot n → n ≡ p.callers → me.0.filling ≡ Some x → slot < (limits p).slots → (state_of (limits p) me.0.seen).slots slot ≡ None → length (state_of (limits p) me.0.seen).warming < p.max_warming → (state_of (limits p) me.0.seen).last_opened < last_generation
+      → Allows (Kept setting docs p) slots id me i (λ n. either (n == 1) 0 n) (Opened (step slots i 1 0 maybe.none) me)
+  opens_next slots id me i h slot n x at_word low few has role told is full all shows below none room left =
       let l = limits p in
       let t = state_of l me.0.seen in
       let g : ℕ = t.last_opened + 1 in
-      let e : Entry U X L = opening_of p me.0.seen h slot (docs door) in
+      let e : Entry U X L = opening_of p me.0.seen h slot x in
       let fresh : Fresh = record { generation = g; slot = slot } in
-      executes p slots id me i (λ n. either (n == 1) 0 n) h e Idle (Some fresh) at_word low few (ap (λ c. either (code_of c == 1) 0 (code_of c)) is) has role
+      executes setting docs p slots id me i (λ n. either (n == 1) 0 n) h e Idle (Some fresh) at_word low few (ap (λ c. either (code_of c == 1) 0 (code_of c)) is) has role
       record { caller = refl; content = refl; call = ap (λ x. Some x) (sym is) }
       (λ log q. let o = quiet_since l log me.0.seen q in record {
         room = subst (λ (gs : List ℕ). length gs < p.max_warming) (sym o.warming) room;
@@ -60,7 +60,7 @@ module _ {D W U X L : Type 0} (p : Plan W) where
         slot = below;
         free = o.free slot none;
       })
-      (λ log legal named may. opening_apart l log h.caller h.asked.content g slot (docs door) may)
+      (λ log legal named may. opening_apart l log h.caller h.asked.content g slot x may)
       (λ s kept at may.
       let w = kept.world in
       let r = (kept.one.fits id me.0 at).registrar role in
@@ -69,11 +69,16 @@ module _ {D W U X L : Type 0} (p : Plan W) where
       let olds : (b h : ℕ) → v.slots b ≡ Some h → h ≢ g = λ a h opened same. (let o = b.slots.opened a h opened in let n = may.next in absurd (omega arith)) in
       let words : Three p v (released w.log) (w.tasks 0) w.tasks (set s.words i 0) =
       three_words p v (released w.log) w.tasks (few_slots p kept.two.sizes) s.words (set s.words i 0) (slots_same s.words (set s.words i 0) (subst (λ (n : ℕ). AreSame s.words (set s.words n 0)) (sym at_word) (call_beside s.words h.caller 0))) kept.three in
-      let after_it = three_opened U X L p v (released w.log) w.tasks (set s.words i 0) words h.caller h.asked.content g slot (docs door) (sym r.task ∙ clear) (never_released l w.log g kept.legal kept.two.named may.next) olds in
+      let after_it = three_opened U X L p v (released w.log) w.tasks (set s.words i 0) words h.caller h.asked.content g slot n x (sym r.task ∙ full) (never_released l w.log g kept.legal kept.two.named may.next) olds in
       let next = state_next l w.log e in
       record {
         fresh_at = put g id w.fresh_at;
         three = three_after p w.log e Idle (put 0 Idle w.tasks) (set s.words i 0) (λ h. not_counted (releases h) w.log e refl) after_it;
+        four =
+            let before : Four setting docs p v (shown_in w.log) (Filled slot n) (Some x) s.homes =
+            subst (λ (z : Task × Option X). Four setting docs p v (shown_in w.log) z.0 z.1 s.homes) (λ j. ((sym r.task ∙ full) j, (sym r.filling ∙ shows) j)) kept.four in
+            subst (λ (z : State × (ℕ → Option X) × Option X). Four setting docs p z.0 z.1 Idle z.2 s.homes) (λ j. (sym next j, λ y. sym (shown_next w.log e y) j, (sym shows ∙ r.filling) j))
+            (four_opened setting docs p L v (shown_in w.log) slot n h.caller g h.asked.content x s.homes all may.free olds before);
         others = λ j f away (i : IsFresh w j l f). (
           put_else g id w.fresh_at f.generation (olds f.slot f.generation i.warming.opened) ∙ i.here,
           subst (λ (z : State). IsWarming z f) (sym next) record { warming = in_still f.generation g v.warming i.warming.warming; opened = kept_open v.slots slot g f.slot f.generation may.free i.warming.opened },
@@ -83,10 +88,10 @@ module _ {D W U X L : Type 0} (p : Plan W) where
           subst (λ (z : State). IsWarming z fresh) (sym next) record { warming = in_last_here g v.warming; opened = ap (λ b. cond b (Some g) (v.slots slot)) (eq-eqb slot slot refl) },
         );
       })
-      (Opened docs (step slots i 1 0 (some (Full door))) me)
-      (λ _ new done g' r b d e' t' c' said. subst (λ (x : Hand U × Plan W × ℕ × D). HasExecuted (opening_of x.1 me.0.seen x.0 x.2 (docs x.3)) Idle (Some (record { generation = (state_of (limits x.1) me.0.seen).last_opened + 1; slot = x.2 })) me new)
-      (λ j. (same_Some h g' (sym has ∙ e') j, same_Some p r (sym told ∙ t') j, ap cleared_slot (sym clear ∙ c') j, ap (door_or door) said j)) done)
+      (Opened (step slots i 1 0 maybe.none) me)
+      (λ _ new done g' r b m y e' t' c' s'. subst (λ (z : Hand U × Plan W × ℕ × X). HasExecuted (opening_of z.1 me.0.seen z.0 z.2 z.3) Idle (Some (record { generation = (state_of (limits z.1) me.0.seen).last_opened + 1; slot = z.2 })) me new)
+      (λ j. (same_Some h g' (sym has ∙ e') j, same_Some p r (sym told ∙ t') j, ap filled_slot (sym full ∙ c') j, ap (given_or x) (sym shows ∙ s') j)) done)
     where
-      cleared_slot : Task → ℕ
-      cleared_slot (Cleared b) = b
-      cleared_slot _ = 0
+      filled_slot : Task → ℕ
+      filled_slot (Filled b m) = b
+      filled_slot _ = 0

@@ -2,7 +2,7 @@
 use Rattle.std.proofs.Common.{◌≡◌, ◌≢◌, ℕ, ◌+◌, ◌/◌, ◌%◌, ◌≤◌, ◌<◌, cond, List, [], ◌∷◌, ◌++◌, count_by, eq-eqb, ne_eqb, refl, sym, ap, ◌∙◌, subst, arith, ⊎_elim, Option, Some, None}
 use Rattle.atomic_table.specs.Table.{Me}
 use Rattle.registry_machine.specs.declared.entry.Entry.{Entry}
-use Rattle.registry_machine.specs.declared.entry.Entry.TheVariants.{Acquire, NotYet, Free}
+use Rattle.registry_machine.specs.declared.entry.Entry.TheVariants.{Acquire, NotYet, Release, Free}
 use Rattle.registry_machine.specs.Entries.{caller_of}
 use Rattle.registry_machine.specs.Callers.{mine}
 use Rattle.registry_machine.specs.Machine.{Limits, State}
@@ -78,6 +78,13 @@ module _ {D U W X L : Type 0} where
             let d = acquires_still c k.mine (mine c log) k.announced (pending c) calls in
             omega arith;
       }
+
+  -- after a release by a seat that has put its door back
+  pub released_by : (p : Plan W) (c g slot n : ℕ) (k : Known W U X L) (out : List (ℕ × Cell D U)) (met new : Me (Cell D U) (Known W U X L)) → met ≡ (k, out) → k.plan ≡ Some p → k.caller ≡ c → 1 ≤ c → HasMade (Release met.0.caller g []) (duty_by n slot g) met (new.0, met.1)
+      → HasKept p c (k, out) (new.0, out) (Release c g []) (duty_by n slot g)
+  released_by p c g slot n k out met new is told numbered low made =
+      let here : HasMade (Release k.caller g []) (duty_by n slot g) (k, out) (new.0, out) = subst (λ (m : Me (Cell D U) (Known W U X L)). HasMade (Release m.0.caller g []) (duty_by n slot g) m (new.0, m.1)) is made in
+      kept_by p c (k, out) (new.0, out) (Release c g []) (duty_by n slot g) told numbered low refl (subst (λ (d : ℕ). HasMade (Release d g []) (duty_by n slot g) (k, out) (new.0, out)) numbered here)
 
   -- what the step leaves that frees a slot
   pub record HasFreedOne (p : Plan W) (c : ℕ) (me new : Me (Cell D U) (Known W U X L)) (g : ℕ) : Type 0 where

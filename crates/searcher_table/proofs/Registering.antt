@@ -10,7 +10,7 @@ use Rattle.searcher_table.specs.declared.board.Call.TheVariants.{Open as ToOpen,
 use Rattle.searcher_table.specs.declared.board.Cell.{Cell}
 use Rattle.searcher_table.specs.declared.board.Known.{Known}
 use Rattle.searcher_table.specs.declared.board.Task.{Task}
-use Rattle.searcher_table.specs.declared.board.Task.TheVariants.{Idle, Cleared}
+use Rattle.searcher_table.specs.declared.board.Task.TheVariants.{Idle, Filled}
 use Rattle.searcher_table.specs.declared.board.Fresh.{Fresh}
 use Rattle.searcher_table.specs.declared.board.Plan.{Plan}
 use Rattle.searcher_table.specs.declared.registrar.Registrar.{Registrar}
@@ -191,15 +191,16 @@ module _ {D U W X L : Type 0} {shows : Ghosts D W X L} where
       (subst (λ (z : List (Entry U X L) × Task). HasExecuted (answer_of a.asked.call (plan_of r) z.0 (hand_of a)) z.1 me.0.fresh me new) (λ i. (ap (λ (m : Me (Cell D U) (Known W U X L)). m.0.seen) is i, task i)) (x (hand_of a) (plan_of r) hand plan))
 
   -- and the step by which it opens the next generation in the slot that it has claimed, which shows this
-  pub opened : (shown : X) (r : Registrar D U W X L) (a : Announced D U W X L shows) (k : Known W U X L) (slot : ℕ) (me new : Me (Cell D U) (Known W U X L)) → Goes r k → me.0 ≡ joined k a.place.me.0 → k.task ≡ Cleared slot
-      → ((h : Hand U) (p : Plan W) (b : ℕ) → me.0.hand ≡ Some h → me.0.plan ≡ Some p → me.0.task ≡ Cleared b
-      → HasExecuted (opening_of p me.0.seen h b shown) Idle (Some (record { generation = (state_of (limits p) me.0.seen).last_opened + 1; slot = b })) me new)
+  pub opened : (shown : X) (r : Registrar D U W X L) (a : Announced D U W X L shows) (k : Known W U X L) (slot n : ℕ) (me new : Me (Cell D U) (Known W U X L)) → Goes r k → me.0 ≡ joined k a.place.me.0 → k.task ≡ Filled slot n → k.filling ≡ Some shown
+      → ((h : Hand U) (p : Plan W) (b m : ℕ) (x : X) → me.0.hand ≡ Some h → me.0.plan ≡ Some p → me.0.task ≡ Filled b m → me.0.filling ≡ Some x
+      → HasExecuted (opening_of p me.0.seen h b x) Idle (Some (record { generation = (state_of (limits p) me.0.seen).last_opened + 1; slot = b })) me new)
       → HasEntered r a.place.me.0 new (opening_of (plan_of r) (seen_of r) (hand_of a) slot shown) Idle (Some (record { generation = last_in (plan_of r) (seen_of r) + 1; slot = slot }))
-  opened shown r a k slot me new g is clear x =
+  opened shown r a k slot n me new g is full kind x =
       let l = limits (plan_of r) in
       let plan : me.0.plan ≡ Some (plan_of r) = ap (λ (m : Known W U X L). m.plan) is ∙ g.plan ∙ r.told in
       let hand : me.0.hand ≡ Some (hand_of a) = ap (λ (m : Known W U X L). m.hand) is ∙ a.in_hand in
-      let task : me.0.task ≡ Cleared slot = ap (λ (m : Known W U X L). m.task) is ∙ clear in
+      let task : me.0.task ≡ Filled slot n = ap (λ (m : Known W U X L). m.task) is ∙ full in
+      let filling : me.0.filling ≡ Some shown = ap (λ (m : Known W U X L). m.filling) is ∙ kind in
       let last : (state_of l me.0.seen).last_opened ≡ (state_of l (seen_of r)).last_opened = ap (λ (m : Known W U X L). (state_of l m.seen).last_opened) is ∙ (quiet_since l k.seen (seen_of r) g.seen).last in
       executed r k a.place.me.0 me new (opening_of (plan_of r) (seen_of r) (hand_of a) slot shown) Idle (Some (record { generation = last_in (plan_of r) (seen_of r) + 1; slot = slot })) g is
-      (subst (λ (n : ℕ). HasExecuted (Open a.caller a.asked.content (n + 1) slot shown) Idle (Some (record { generation = n + 1; slot = slot })) me new) last (x (hand_of a) (plan_of r) slot hand plan task))
+      (subst (λ (n : ℕ). HasExecuted (Open a.caller a.asked.content (n + 1) slot shown) Idle (Some (record { generation = n + 1; slot = slot })) me new) last (x (hand_of a) (plan_of r) slot n shown hand plan task filling))

@@ -1,11 +1,13 @@
 -- Releasing keeps the rule: the slot's word counts one more, and the caller pins nothing any more.
-use Rattle.std.proofs.Common.{◌≡◌, ◌≢◌, ◌⊎◌, ℕ, ◌+◌, ◌*◌, ◌/◌, ◌%◌, ◌≤◌, ◌<◌, ◌==◌, Bool, true, false, cond, List, [], ◌∷◌, ◌++◌, length, set, get_or-set_same, get_or-set_other, eq-eqb, ne_eqb, refl, sym, ap, ◌∙◌, subst, arith, inl, inr, ⊎_elim, Some, None}
+use Rattle.std.proofs.Common.{◌≡◌, ◌≢◌, ◌⊎◌, ℕ, ◌+◌, ◌*◌, ◌/◌, ◌%◌, ◌≤◌, ◌<◌, ◌==◌, Bool, true, false, cond, List, [], ◌∷◌, ◌++◌, length, length-set, set, get_or-set_same, get_or-set_other, eq-eqb, ne_eqb, refl, sym, ap, ◌∙◌, subst, arith, inl, inr, ⊎_elim, Option, Some, None}
+use mathlib.Core.Option.{some}
 use mathlib.Core.Option as maybe
 use mathlib.Core.Logic.{dite}
 use native.Mathlib.Decide.{ℕ_discrete}
 use Rattle.std.specs.Prelude.{slice_index, ◌^◌}
 use Rattle.std.proofs.lemmas.Option.{same_Some}
-use Rattle.atomic_table.specs.Table.{Me, Allows, keeps, step}
+use Rattle.atomic_table.specs.Table.{Me, Allows, gives, homes_after, step}
+use Rattle.atomic_table.proofs.Lists.{set_here, set_else}
 use Rattle.registry_machine.specs.declared.entry.Entry.{Entry}
 use Rattle.registry_machine.specs.declared.entry.Entry.TheVariants.{Release}
 use Rattle.registry_machine.specs.Callers.{mine}
@@ -13,6 +15,7 @@ use Rattle.registry_machine.specs.Machine.{State, after}
 use Rattle.registry_machine.specs.Legal.{Legal, state_of}
 use Rattle.registry_machine.proofs.Lists.{test_same}
 use Rattle.searcher_table.specs.declared.board.Cell.{Cell}
+use Rattle.searcher_table.specs.declared.board.Cell.TheVariants.{Full}
 use Rattle.searcher_table.specs.declared.board.Plan.{Plan}
 use Rattle.searcher_table.specs.declared.board.Known.{Known}
 use Rattle.searcher_table.specs.Words.{word_count, current_word, slot_word, packed, limits}
@@ -20,7 +23,10 @@ use Rattle.searcher_table.specs.Counts.{is_acquire, is_not_yet, releases, pinned
 use Rattle.searcher_table.specs.Rule.{CountsTooEarly, IsPacked, Two, released, Kept}
 use Rattle.searcher_table.specs.declared.board.Task.{Task}
 use Rattle.searcher_table.specs.declared.board.Task.TheVariants.{Idle, Duty}
-use Rattle.searcher_table.specs.Tasks.{is_settled, Three}
+use Rattle.searcher_table.specs.Tasks.{is_settled, IsTask, Three}
+use Rattle.searcher_table.specs.Doors.{cell_of, shown_in, IsDoor, Four}
+use Rattle.searcher_table.proofs.Doors.{cell_below, shown_next, filled_none, four_own}
+use Rattle.searcher_table.proofs.Showing.{shown_stays}
 use Rattle.searcher_table.specs.Steps.{looked, duty_by, HasMade, Released}
 use Rattle.searcher_table.proofs.Slotted.{three_released}
 use Rattle.searcher_table.proofs.Frame.{put, covers}
@@ -129,11 +135,27 @@ module _ {W U X L : Type 0} (p : Plan W) (log : List (Entry U X L)) (words : Lis
       by_test true e = by_count e (s.acquired g == released log g + 1) refl
       by_test false e = inl (last_release false e)
 
-module _ {D W U X L : Type 0} (p : Plan W) where
+-- the act of a release: the door is back in its cell
+module _ {D W U X L : Type 0} (setting : D → W) (docs : D → X) (p : Plan W) (log : List (Entry U X L)) (c slot g : ℕ) (own : Task) (filling : Option X) (homes : List (maybe.Option (Cell D U))) (d : D) where
+  gives_by : (rel : ℕ → ℕ) (words : List ℕ) → Four setting docs p (state_of (limits p) log) (shown_in log) own filling homes → p.callers ≤ 64 → 1 ≤ c → c ≤ p.callers → (state_of (limits p) log).pins c ≡ Some g
+      → (state_of (limits p) log).slots slot ≡ Some g → slot < (limits p).slots → IsTask p (state_of (limits p) log) own rel words 0 own → ((b : ℕ) → (state_of (limits p) log).slots b ≡ Some g → b ≡ slot) → IsDoor setting docs p (shown_in log g) d
+      → Four setting docs p (after {U = U} {D = X} {L = L} (state_of (limits p) log) (Release c g [])) (shown_in (log ++ Release c g [] ∷ [])) own filling (set homes (cell_of slot c) (some (Full d)))
+  gives_by rel words four few low within pins here below begun one is =
+      let s : State = state_of (limits p) log in
+      let e : Entry U X L = Release c g [] in
+      let cell : ℕ = cell_of slot c in
+      let in_it : cell < 64 * (limits p).slots = cell_below slot c (limits p).slots below low (omega arith) in
+      let long = four.size in
+      four_own setting docs p s (after {U = U} {D = X} {L = L} s e) (shown_in log) (shown_in (log ++ e ∷ [])) own filling homes (set homes cell (some (Full d))) slot g c four few here low (omega arith) one (filled_none p s own rel words own begun)
+      (λ _. refl) (λ b other. ap (λ z. cond z None (s.pins b)) (ne_eqb b c other)) (λ h away z. away (same_Some h g (sym z ∙ pins))) (λ h. shown_next log e h)
+      (length-set homes cell (some (Full d))) (λ j away. set_else homes cell j (some (Full d)) away)
+      (λ _. (d, set_here homes cell (some (Full d)) (omega arith), is))
+
+module _ {D W U X L : Type 0} (setting : D → W) (docs : D → X) (p : Plan W) where
   pub releases_slot : (slots id : ℕ) (me : Me (Cell D U) (Known W U X L)) (i slot g : ℕ) → i ≡ slot_word slot → slot < 70 → 1 ≤ me.0.caller → me.0.caller ≤ 64 → me.0.back ≡ []
-      → pinned me.0.caller me.0.mine ≡ Some g → me.0.task ≡ Idle → (state_of (limits p) me.0.seen).slots slot ≡ Some g
-      → Allows (Kept p) slots id me i (λ n. (n + 1) % 2 ^ 64) (Released (step slots i 1 0 maybe.none) me)
-  releases_slot slots id me i slot g at_word below low few bare holds idle opened s kept deep at small =
+      → pinned me.0.caller me.0.mine ≡ Some g → me.0.task ≡ Idle → (state_of (limits p) me.0.seen).slots slot ≡ Some g → (d : D) → me.1 ≡ (cell_of slot me.0.caller, Full d) ∷ [] → IsDoor setting docs p (shown_in me.0.seen g) d
+      → Allows (Kept setting docs p) slots id me i (λ n. (n + 1) % 2 ^ 64) (Released (step slots i 1 0 maybe.none) me)
+  releases_slot slots id me i slot g at_word below low few bare holds idle opened d out is_door s kept deep at small =
       let w = kept.world in
       let k = me.0 in
       let c : ℕ = k.caller in
@@ -154,19 +176,29 @@ module _ {D W U X L : Type 0} (p : Plan W) where
       let slots : Three p (after (state_of l w.log) e) (released log) (w.tasks 0) (put c task w.tasks) (set s.words i x) =
       subst (λ (n : ℕ). Three p (after (state_of l w.log) e) (released log) (w.tasks 0) (put c (duty_by (slice_index s.words n) slot g) w.tasks) (set s.words n x)) (sym at_word)
       (three_later p w.log s.words w.tasks c g slot x kept.words kept.legal kept.two kept.three low few pins here (sym (all.pass low).task ∙ idle) (omega arith) is) in
+      let b = bounded l w.log (first_within p kept.two.sizes) kept.legal in
+      let cell : ℕ = cell_of slot c in
+      let four_here : Four setting docs p (after (state_of l w.log) e) (shown_in log) (w.tasks 0) w.filling (set s.homes cell (some (Full d))) =
+      gives_by setting docs p w.log c slot g (w.tasks 0) w.filling s.homes d (released w.log) s.words kept.four kept.two.sizes.callers low (omega arith) pins here (b.below slot g here) (kept.three.begun 0) (λ a z. b.one a slot g z here)
+      (subst (λ (o : Option X). IsDoor setting docs p o d) (sym (shown_stays l w.log k.seen all.seen.0 slot g (first_within p kept.two.sizes) kept.legal all.seen.1 opened)) is_door) in
+      let four : Four setting docs p (after (state_of l w.log) e) (shown_in log) (w.tasks 0) w.filling (homes_after s.homes me.1 gives) =
+      subst (λ (hs : List (ℕ × Cell D U)). Four setting docs p (after (state_of l w.log) e) (shown_in log) (w.tasks 0) w.filling (homes_after s.homes hs gives)) (sym out) four_here in
       let new : Me (Cell D U) (Known W U X L) = (record (looked k log w.pending) { hand = None; task = task; fresh = k.fresh }, me.1) in (
         new.0,
-        keeps,
+        gives,
         tt,
-        own_step p s kept id i x me e task at low bare (omega arith) refl refl pins later slots (λ f z. record { warming = z.warming; opened = z.opened }),
-        λ t h at_slot same. subst (λ (n : ℕ × ℕ). HasMade (Release c n.1 []) (duty_by (slice_index s.words i) n.0 n.1) me new) (λ j. ((let q : slot ≡ t = omega arith in q) j, same_Some g h (sym holds ∙ same) j)) record {
-          entered = record {
-            log = w.log;
-            pending = w.pending;
-            covers = covers p w id k all kept.legal;
-            legal = λ q eq. subst (λ (r : Plan W). Legal (limits r) log) (sym (all.plan q eq)) (grows_legal l w.log e kept.legal pins);
-            after = refl;
-          };
-          calls = λ _. calls;
-        },
+        own_step setting docs p s kept id i x me e task gives at low bare (omega arith) refl refl pins later slots four (λ f z. record { warming = z.warming; opened = z.opened }),
+        λ t h at_slot same. (
+          subst (λ (n : ℕ × ℕ). HasMade (Release c n.1 []) (duty_by (slice_index s.words i) n.0 n.1) me new) (λ j. ((let q : slot ≡ t = omega arith in q) j, same_Some g h (sym holds ∙ same) j)) record {
+            entered = record {
+              log = w.log;
+              pending = w.pending;
+              covers = covers p w id k all kept.legal;
+              legal = λ q eq. subst (λ (r : Plan W). Legal (limits r) log) (sym (all.plan q eq)) (grows_legal l w.log e kept.legal pins);
+              after = refl;
+            };
+            calls = λ _. calls;
+          },
+          refl,
+        ),
       )

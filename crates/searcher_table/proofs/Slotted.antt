@@ -11,7 +11,7 @@ use Rattle.registry_machine.specs.Machine.{State, is_in, is_some_of, after}
 use Rattle.registry_machine.proofs.Lists.{true_and_false, test_same}
 use Rattle.searcher_table.specs.declared.board.Plan.{Plan}
 use Rattle.searcher_table.specs.declared.board.Task.{Task}
-use Rattle.searcher_table.specs.declared.board.Task.TheVariants.{Idle, Found, Claimed, Cleared, Unsettled, Duty}
+use Rattle.searcher_table.specs.declared.board.Task.TheVariants.{Idle, Found, Claimed, Filled, Filling, Unsettled, Duty}
 use Rattle.searcher_table.specs.Words.{slot_word, mask_word, bit_of, limits}
 use Rattle.searcher_table.specs.Tasks.{unsettled, is_settled, IsFree, IsClear, IsUnsettled, IsDuty, IsTask, Three}
 use Rattle.registry_machine.specs.Legal.{state_of}
@@ -78,7 +78,8 @@ module _ {W : Type 0} (p : Plan W) (s t : State) (own now : Task) (rel new : ℕ
   map_task free none clear Idle untold duty h = tt
   map_task free none clear (Found slot) untold duty h = (h.0, free slot h.0 h.1)
   map_task free none clear (Claimed slot) untold duty h = (h.0, h.1, none slot h.0 h.2)
-  map_task free none clear (Cleared slot) untold duty h = (h.0, clear slot h.0 h.1)
+  map_task free none clear (Filled slot n) untold duty h = (h.0, clear slot h.0 h.1)
+  map_task free none clear (Filling slot n) untold duty h = (h.0, clear slot h.0 h.1)
   map_task free none clear (Unsettled slot g total) untold duty h = (h.0, untold slot g total h.0 refl h.1)
   map_task free none clear (Duty slot g) untold duty h = duty slot g refl h
 

@@ -9,7 +9,7 @@ use Rattle.registry_machine.specs.Machine.{State, is_in, is_some_of, after}
 use Rattle.registry_machine.proofs.Lists.{true_and_false, test_same, in_append, in_last_here}
 use Rattle.searcher_table.specs.declared.board.Plan.{Plan}
 use Rattle.searcher_table.specs.declared.board.Task.{Task}
-use Rattle.searcher_table.specs.declared.board.Task.TheVariants.{Idle, Found, Claimed, Cleared, Duty}
+use Rattle.searcher_table.specs.declared.board.Task.TheVariants.{Idle, Found, Claimed, Filled, Duty}
 use Rattle.searcher_table.specs.Words.{slot_word, bit_of, limits}
 use Rattle.searcher_table.specs.Tasks.{claimed, unsettled, is_settled, IsFree, IsMarked, IsClear, IsUnsettled, IsDuty, IsTask, Three}
 use Rattle.searcher_table.proofs.Frame.{put}
@@ -17,7 +17,7 @@ use Rattle.searcher_table.proofs.Standing.{at_open}
 use Rattle.searcher_table.proofs.Slotted.{is_own, idle_duty, map_task, map_duty, begun_by, duty_still, was_duty, duty_parts, settled_parts}
 
 -- what a slot was open for before a freeing
-at_freed : (x g : ℕ) (o : Option ℕ) → cond (is_some_of x o) None o ≡ Some g → (o ≡ Some g) × (g ≢ x)
+pub at_freed : (x g : ℕ) (o : Option ℕ) → cond (is_some_of x o) None o ≡ Some g → (o ≡ Some g) × (g ≢ x)
 at_freed x g None h = absurd (none-some g h)
 at_freed x g (Some y) h = by_test (y == x) refl h
   where
@@ -25,7 +25,7 @@ at_freed x g (Some y) h = by_test (y == x) refl h
     by_test true e h = absurd (none-some g h)
     by_test false e h = (h, λ same. true_and_false (y == x) (eq-eqb y x (same_Some y g h ∙ same)) e)
 
-none_before : (x : ℕ) (o : Option ℕ) → cond (is_some_of x o) None o ≡ None → (o ≡ None) ⊎ (o ≡ Some x)
+pub none_before : (x : ℕ) (o : Option ℕ) → cond (is_some_of x o) None o ≡ None → (o ≡ None) ⊎ (o ≡ Some x)
 none_before x None h = inl refl
 none_before x (Some y) h = by_test (y == x) refl h
   where
@@ -96,11 +96,11 @@ module _ {W : Type 0} (p : Plan W) (s : State) (rel : ℕ → ℕ) (tasks : ℕ 
 
   -- its word is 0
   pub three_cleared : (slot : ℕ) (news : List ℕ) → tasks 0 ≡ Claimed slot → slice_index news (slot_word slot) ≡ 0 → ((b : ℕ) → b < 128 → bit_of news b ≡ bit_of words b)
-      → ((b : ℕ) → b ≢ slot → slice_index news (slot_word b) ≡ slice_index words (slot_word b)) → Three p s rel (Cleared slot) (put 0 (Cleared slot) tasks) news
+      → ((b : ℕ) → b ≢ slot → slice_index news (slot_word b) ≡ slice_index words (slot_word b)) → Three p s rel (Filled slot 0) (put 0 (Filled slot 0) tasks) news
   three_cleared slot news is zero bits same =
       let mine : IsTask p s (tasks 0) rel words 0 (Claimed slot) = subst (λ (t : Task). IsTask p s (tasks 0) rel words 0 t) is (three.begun 0) in
       let claim : claimed (tasks 0) ≡ Some slot = ap claimed is in
-      three_begun (Cleared slot) news (λ b g e. let q : Claimed slot ≡ Duty b g = sym is ∙ e in absurd (cc)) (λ b g e. let q : Cleared slot ≡ Duty b g = e in absurd (cc))
+      three_begun (Filled slot 0) news (λ b g e. let q : Claimed slot ≡ Duty b g = sym is ∙ e in absurd (cc)) (λ b g e. let q : Filled slot 0 ≡ Duty b g = e in absurd (cc))
       (sym (ap unsettled is)) (refl, record { below = mine.1; none = mine.2; word_is = zero })
       (λ b low. let m = three.masks b low in let e = bits b low in record {
         free = λ one. let g = m.free (sym e ∙ one) in record { below = g.below; none = g.none; unclaimed = λ z. g.unclaimed (claim ∙ z) };
@@ -108,13 +108,23 @@ module _ {W : Type 0} (p : Plan W) (s : State) (rel : ℕ → ℕ) (tasks : ℕ 
       })
       (λ b g _ opened. same b (λ eq. none-some g (sym mine.2 ∙ ap s.slots (sym eq) ∙ opened)))
 
+  -- doors are laid into it
+  pub three_filled : (slot : ℕ) (a : Task) → claimed (tasks 0) ≡ Some slot → claimed a ≡ Some slot → unsettled (tasks 0) ≡ None → unsettled a ≡ None → IsNoDuty (tasks 0) → IsNoDuty a → IsTask p s a rel words 0 a
+      → Three p s rel a (put 0 a tasks) words
+  three_filled slot a was is old none no_duty still mine = three_begun a words no_duty still (none ∙ sym old) mine
+      (λ b low. let m = three.masks b low in record {
+        free = λ one. let f = m.free one in record { below = f.below; none = f.none; unclaimed = λ z. f.unclaimed (was ∙ sym is ∙ z) };
+        marked = λ f. m.marked record { below = f.below; none = f.none; unclaimed = λ z. f.unclaimed (is ∙ sym was ∙ z) };
+      })
+      (λ _ _ _ _. refl)
+
 module _ {W : Type 0} (U X L : Type 0) (p : Plan W) (s : State) (rel : ℕ → ℕ) (tasks : ℕ → Task) (words : List ℕ) (three : Three p s rel (tasks 0) tasks words) where
   -- ---- an opening in the slot that was cleared
-  pub three_opened : (c : ℕ) (u : U) (g slot : ℕ) (x : X) → tasks 0 ≡ Cleared slot → rel g ≡ 0 → ((b h : ℕ) → s.slots b ≡ Some h → h ≢ g)
+  pub three_opened : (c : ℕ) (u : U) (g slot n : ℕ) (x : X) → tasks 0 ≡ Filled slot n → rel g ≡ 0 → ((b h : ℕ) → s.slots b ≡ Some h → h ≢ g)
       → Three p (after {U = U} {D = X} {L = L} s (Open c u g slot x)) rel Idle (put 0 Idle tasks) words
-  three_opened c u g slot x is never olds =
+  three_opened c u g slot n x is never olds =
       let t : State = after {U = U} {D = X} {L = L} s (Open c u g slot x) in
-      let mine : IsTask p s (tasks 0) rel words 0 (Cleared slot) = subst (λ (a : Task). IsTask p s (tasks 0) rel words 0 a) is (three.begun 0) in
+      let mine : IsTask p s (tasks 0) rel words 0 (Filled slot n) = subst (λ (a : Task). IsTask p s (tasks 0) rel words 0 a) is (three.begun 0) in
       let clear : IsClear (limits p) s words slot = mine.1 in
       let claim : claimed (tasks 0) ≡ Some slot = ap claimed is in
       let told : unsettled (tasks 0) ≡ None = ap unsettled is in
@@ -152,7 +162,7 @@ module _ {W : Type 0} (U X L : Type 0) (p : Plan W) (s : State) (rel : ℕ → �
         drained = λ b h opened settled out. ⊎_elim
             (λ (k : (b ≡ slot) × (g ≡ h)). absurd (true_and_false (is_settled t Idle g) (ap (is_settled t Idle) k.1 ∙ settled) not_settled))
             (λ (k : s.slots b ≡ Some h). let d = three.drained b h k (sym (as_settled h (olds b h k)) ∙ settled) out in
-            (d.0, duty_still tasks 0 Idle d.0 b h d.1 (λ z. let q : Cleared slot ≡ Duty b h = sym is ∙ ap tasks (sym z) ∙ d.1 in absurd (cc))))
+            (d.0, duty_still tasks 0 Idle d.0 b h d.1 (λ z. let q : Filled slot n ≡ Duty b h = sym is ∙ ap tasks (sym z) ∙ d.1 in absurd (cc))))
             (at_open s.slots slot g b h opened);
         alone = λ d e y z h i j. ⊎_elim
             (λ (m : (d ≡ 0) × (Idle ≡ Duty y h)). absurd (idle_duty y h m.1))

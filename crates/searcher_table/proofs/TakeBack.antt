@@ -31,12 +31,12 @@ module _ {W U X L : Type 0} where
         pass = λ c. let g = f.pass c in record { here = stays k.caller g.here; dealt = g.dealt; calls = g.calls; task = g.task };
         hand = λ h e. let g = f.hand h e in record { here = g.here; pending = g.pending };
         fresh = λ h e. let g = f.fresh h e in record { here = g.here; warming = g.warming };
-        registrar = λ r. let g = f.registrar r in record { here = g.here; seen = g.seen; next = g.next; nobody = g.nobody; task = g.task };
+        registrar = λ r. let g = f.registrar r in record { here = g.here; seen = g.seen; next = g.next; nobody = g.nobody; task = g.task; filling = g.filling };
         back = all_map (IsBack w j) (IsBack (taken w from to) j) (λ o g. record { here = stays o.caller g.here; dealt = g.dealt; mine = g.mine; none = g.none }) k.back f.back;
       }
 
-  pub takes_back : {D : Type 0} (p : Plan W) (id : ℕ) (k : Known W U X L) (other : ℕ) (o : Known W U X L) → 1 ≤ o.caller → o.announced ≡ None → Joins (Kept {D = D} p) id k other o (taken_back k o) spent
-  takes_back p id k other o low none s kept at apart at' =
+  pub takes_back : {D : Type 0} (setting : D → W) (docs : D → X) (p : Plan W) (id : ℕ) (k : Known W U X L) (other : ℕ) (o : Known W U X L) → 1 ≤ o.caller → o.announced ≡ None → Joins (Kept setting docs p) id k other o (taken_back k o) spent
+  takes_back setting docs p id k other o low none s kept at apart at' =
       let w = kept.world in
       let v = taken w other id in
       let one : List (Known W U X L) = set s.views id (taken_back k o) in
@@ -54,7 +54,7 @@ module _ {W U X L : Type 0} where
         pass = λ c. let i = f.pass c in record { here = i.here; dealt = i.dealt; calls = i.calls; task = i.task };
         hand = f.hand;
         fresh = f.fresh;
-        registrar = λ r. let i = f.registrar r in record { here = i.here; seen = i.seen; next = i.next; nobody = i.nobody; task = i.task };
+        registrar = λ r. let i = f.registrar r in record { here = i.here; seen = i.seen; next = i.next; nobody = i.nobody; task = i.task; filling = i.filling };
         back = all_joined (IsBack v id) k.back (own ∷ []) f.back (new, tt);
       } in
       record {
@@ -63,6 +63,7 @@ module _ {W U X L : Type 0} where
         legal = kept.legal;
         two = kept.two;
         three = kept.three;
+        four = kept.four;
         one = record {
           calls = kept.one.calls;
           fits = each_set (Fits p v) one other spent (spent_fits p v other)

@@ -4,7 +4,7 @@ use mathlib.Core.Option.{some}
 use lib.ListN.{get_elem?}
 use Rattle.std.specs.List.{AllByRecursion}
 use Rattle.std.proofs.lemmas.Option.{none-some}
-use Rattle.atomic_table.specs.Table.{State, Me, stepped, keeps}
+use Rattle.atomic_table.specs.Table.{State, Me, Act, homes_after, stepped}
 use Rattle.registry_machine.specs.declared.entry.Entry.{Entry}
 use Rattle.registry_machine.specs.Entries.{caller_of, has_place}
 use Rattle.registry_machine.specs.Callers.{mine}
@@ -18,6 +18,7 @@ use Rattle.searcher_table.specs.declared.board.Task.{Task}
 use Rattle.searcher_table.specs.declared.board.Fresh.{Fresh}
 use Rattle.searcher_table.specs.Words.{call_word, limits}
 use Rattle.searcher_table.specs.Tasks.{IsWarming, Three}
+use Rattle.searcher_table.specs.Doors.{shown_in, Four}
 use Rattle.searcher_table.specs.Views.{GoesOn}
 use Rattle.searcher_table.specs.Rule.{World, IsPass, IsHand, IsFresh, IsRegistrar, IsBack, Fits, Two, released, Kept}
 use Rattle.searcher_table.specs.Steps.{looked}
@@ -54,14 +55,15 @@ module _ {W U X L : Type 0} (p : Plan W) (w : World U X L) (id : ℕ) (k : Known
 abbrev pub Holds : {W U X L : Type 0} → Plan W → (ℕ → ℕ) → List (Entry U X L) → ℕ → Fresh → Type 0
 Holds p fresh_at log id f = (fresh_at f.generation ≡ id) × IsWarming (state_of (limits p) log) f
 
-module _ {D W U X L : Type 0} (p : Plan W) where
-  pub turns : (s : State (Cell D U) (Known W U X L)) (kept : Kept p s) (id i x : ℕ) (me : Me (Cell D U) (Known W U X L)) (log es : List (Entry U X L)) (task : Task) (fresh : Option Fresh) (fresh_at : ℕ → ℕ)
+module _ {D W U X L : Type 0} (setting : D → W) (docs : D → X) (p : Plan W) where
+  pub turns : (s : State (Cell D U) (Known W U X L)) (kept : Kept setting docs p s) (id i x : ℕ) (me : Me (Cell D U) (Known W U X L)) (log es : List (Entry U X L)) (task : Task) (fresh : Option Fresh) (fresh_at : ℕ → ℕ) (act : Act (Cell D U))
       → get_elem? s.views id ≡ some me.0 → Acts me.0 → i < 640 → log ≡ kept.world.log ++ es → AllByRecursion (λ e. caller_of e ≡ None) es
       → AllByRecursion (λ e. has_place e ≡ false) es ⊎ (me.0.registrar ≡ true) → Legal (limits p) log → Two p log (set s.words i x)
       → Three p (state_of (limits p) log) (released log) (put me.0.caller task kept.world.tasks 0) (put me.0.caller task kept.world.tasks) (set s.words i x)
+      → Four setting docs p (state_of (limits p) log) (shown_in log) (put me.0.caller task kept.world.tasks 0) kept.world.filling (homes_after s.homes me.1 act)
       → ((j : ℕ) (f : Fresh) → j ≢ id → IsFresh kept.world j (limits p) f → Holds p fresh_at log j f) → ((f : Fresh) → fresh ≡ Some f → Holds p fresh_at log id f)
-      → Kept p (stepped s i x id me.1 (record (looked me.0 log kept.world.pending) { hand = None; task = task; fresh = fresh }) keeps)
-  turns s kept id i x me log es task fresh fresh_at at acts below grown named quiet legal two three others own =
+      → Kept setting docs p (stepped s i x id me.1 (record (looked me.0 log kept.world.pending) { hand = None; task = task; fresh = fresh }) act)
+  turns s kept id i x me log es task fresh fresh_at act at acts below grown named quiet legal two three four others own =
       let w = kept.world in
       let k = me.0 in
       let all = kept.one.fits id k at in
@@ -75,6 +77,7 @@ module _ {D W U X L : Type 0} (p : Plan W) where
         legal = legal;
         two = two;
         three = three;
+        four = four;
         one = one_after p w log w.pending w.hand_at tasks fresh_at id k None task fresh s.words (set s.words i x) s.views kept.one at
             record {
               log = λ seen z. let g = starts_later w.log seen es z in (g.0, grown ∙ g.1);
@@ -98,6 +101,7 @@ module _ {D W U X L : Type 0} (p : Plan W) where
                     next = g.next;
                     nobody = g.nobody;
                     task = g.task ∙ sym (put_else k.caller task w.tasks 0 n.0);
+                    filling = g.filling;
                   };
               backs = λ j o away g. back j o g;
             }

@@ -43,15 +43,15 @@ leaves {W} {U} {X} {L} l w id c here hand =
       hands = λ j h other (g : IsHand w j h).
           record { here = g.here; pending = put_else c None w.pending h.caller (other_hand w id j c h.caller hand g.here other) ∙ g.pending };
       freshes = λ j h other g. record { here = g.here; warming = g.warming };
-      registrars = λ j u other g. record { here = g.here; seen = g.seen; next = g.next; nobody = g.nobody; task = g.task };
+      registrars = λ j u other g. record { here = g.here; seen = g.seen; next = g.next; nobody = g.nobody; task = g.task; filling = g.filling };
       backs = λ j o other (g : IsBack w j o).
           let n : o.caller ≢ c = another w id j c o.caller here g.here other in
           record { here = g.here; dealt = g.dealt; mine = g.mine; none = put_else c None w.pending o.caller n ∙ g.none };
     }
 
-module _ {D W U X L : Type 0} (p : Plan W) where
+module _ {D W U X L : Type 0} (setting : D → W) (docs : D → X) (p : Plan W) where
   pub withdraws : (slots id : ℕ) (me : Me (Cell D U) (Known W U X L)) (i : ℕ) (h : Hand U) → i ≡ call_word me.0.caller → 1 ≤ me.0.caller → me.0.caller ≤ 64 → me.0.hand ≡ Some h → h.caller ≡ me.0.caller → me.0.back ≡ []
-      → Allows (Kept p) slots id me i (λ _. 0) (λ _. Withdrawn (step slots i 0 0 maybe.none) me 0)
+      → Allows (Kept setting docs p) slots id me i (λ _. 0) (λ _. Withdrawn (step slots i 0 0 maybe.none) me 0)
   withdraws slots id me i h at_word low few has own bare s kept deep at small =
       let w = kept.world in
       let k = me.0 in
@@ -69,6 +69,7 @@ module _ {D W U X L : Type 0} (p : Plan W) where
           words = length-set s.words i 0 ∙ kept.words;
           world = moved w w.log now w.hand_at w.tasks w.fresh_at;
           legal = kept.legal;
+          four = kept.four;
           three = three_words p (state_of (limits p) w.log) (released w.log) w.tasks (few_slots p kept.two.sizes) s.words (set s.words i 0) (slots_same s.words (set s.words i 0) (subst (λ (n : ℕ). AreSame s.words (set s.words n 0)) (sym at_word) (call_beside s.words c 0))) kept.three;
           two = two_words p w.log s.words (set s.words i 0) (subst (λ (n : ℕ). AreSame s.words (set s.words n 0)) (sym at_word) (call_beside s.words c 0)) kept.two;
           one = one_after p w w.log now w.hand_at w.tasks w.fresh_at id k None k.task k.fresh s.words (set s.words i 0) s.views kept.one at (leaves (limits p) w id c f.here here)

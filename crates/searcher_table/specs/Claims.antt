@@ -1,8 +1,10 @@
--- What is said of the registrar's seat while it claims a slot.
-use Rattle.std.specs.Prelude.{◌≡◌, ℕ, ◌<◌, true, length, Some, None}
+-- What is said of the registrar's seat while it claims a slot and fills it.
+use Rattle.std.specs.Prelude.{◌≡◌, ◌≢◌, ℕ, ◌<◌, true, List, length, Some, None}
+use Rattle.std.specs.List.{AllByRecursion}
 use Rattle.registry_machine.specs.Legal.{Legal, state_of}
 use Rattle.searcher_table.specs.declared.board.Plan.{Plan}
 use Rattle.searcher_table.specs.declared.board.Task.{Task}
+use Rattle.searcher_table.specs.declared.board.Task.TheVariants.{Filled}
 use Rattle.searcher_table.specs.declared.board.Known.{Known}
 use Rattle.searcher_table.specs.Words.{limits}
 use Rattle.searcher_table.specs.Views.{HasNoPlaceSince}
@@ -30,3 +32,29 @@ module _ {W U X L : Type 0} where
   pub record IsForNone (p : Plan W) (n : Known W U X L) (slot : ℕ) : Type 0 where
     pub below : slot < (limits p).slots
     pub none : (state_of (limits p) n.seen).slots slot ≡ None
+
+module _ {W U X L : Type 0} where
+  -- so many doors are laid into the slot, and show these documents
+  pub record HasLaid (p : Plan W) (k n : Known W U X L) (slot count : ℕ) (shown : X) : Type 0 where
+    pub begun : HasBegun p k n (Filled slot count)
+    pub filling : n.filling ≡ Some shown
+
+module _ {D W X : Type 0} where
+  -- one door for each caller; they show the table's setting and the same documents
+  pub record AreAlike (setting : D → W) (docs : D → X) (p : Plan W) (doors : List D) : Type 0 where
+    pub count : length doors ≡ p.callers
+    pub settings : AllByRecursion (λ d. setting d ≡ p.setting.value) doors
+    pub same : (shown : X) × AllByRecursion (λ d. docs d ≡ shown) doors
+
+module _ {D W U X L : Type 0} where
+  -- the door shows the table's setting, and the documents that those before it show
+  pub record IsNextDoor (setting : D → W) (docs : D → X) (p : Plan W) (k : Known W U X L) (count : ℕ) (d : D) : Type 0 where
+    pub few : count < p.callers
+    pub setting_is : setting d ≡ p.setting.value
+    pub same : count ≢ 0 → k.filling ≡ Some (docs d)
+
+  -- they are laid into the slot
+  pub record HasFilled (docs : D → X) (p : Plan W) (k n : Known W U X L) (slot : ℕ) (doors : List D) : Type 0 where
+    pub shown : X
+    pub laid : HasLaid p k n slot p.callers shown
+    pub doors_show : AllByRecursion (λ d. docs d ≡ shown) doors

@@ -1,5 +1,6 @@
 pub mod Words
 pub mod Tasks
+pub mod Doors
 pub mod Counts
 pub mod Spares
 pub mod Warming
@@ -9,6 +10,7 @@ pub mod Steps
 pub mod Claims
 pub mod Passes
 pub mod Pins
+pub mod Lending
 pub mod Registrars
 pub mod Openings
 pub mod Making

@@ -16,6 +16,7 @@ use Rattle.searcher_table.specs.declared.pin.AcquireRefusal.TheVariants.{NotYet 
 use Rattle.searcher_table.specs.declared.tokens.Sighting.{Sighting}
 use Rattle.searcher_table.specs.Words.{limits}
 use Rattle.searcher_table.specs.Counts.{is_acquire}
+use Rattle.searcher_table.specs.Doors.{shown_in, IsDoor}
 use Rattle.searcher_table.specs.Views.{StartsWith, GoesOn}
 use Rattle.searcher_table.specs.Passes as pass
 use Rattle.searcher_table.specs.Passes.{mine_of, sighted, sighted_at, IsSamePass}
@@ -99,6 +100,15 @@ module _ {D U W X L : Type 0} where
     pub mine : t.place.me.0.mine ≡ s.place.me.0.mine
     pub announced : t.place.me.0.announced ≡ s.place.me.0.announced
     pub steps : t.place.me.0.steps ≡ s.place.me.0.steps
+    pub door : t.door ≡ s.door
+
+  -- the pin's door shows the table's setting, and the documents of the generation's opening
+  abbrev pub IsDoorOf : (D → W) → (D → X) → Pin D U W X L → Type 0
+  IsDoorOf setting docs pin = IsDoor setting docs (plan_of pin) (shown_in pin.place.me.0.seen pin.generation) pin.door
+
+  -- the same pin, with this door
+  abbrev pub with_door : Pin D U W X L → D → Pin D U W X L
+  with_door pin door = record pin { door = door }
 
 module _ {D U W X L : Type 0} {shows : Ghosts D W X L} where
   -- the sighting carries what the pin's pass has seen

@@ -18,11 +18,12 @@ use Rattle.searcher_table.specs.declared.board.Task.{Task}
 use Rattle.searcher_table.specs.declared.board.Task.TheVariants.{Idle}
 use Rattle.searcher_table.specs.declared.board.Fresh.{Fresh}
 use Rattle.searcher_table.specs.Tasks.{IsWarming, Three}
+use Rattle.searcher_table.specs.Doors.{shown_in, Four}
 use Rattle.searcher_table.specs.Words.{word_count, current_word, packed, call_word, code, HasSizes, limits}
 use Rattle.searcher_table.specs.Counts.{is_acquire, is_not_yet, releases, NamesCaller}
 use Rattle.searcher_table.specs.Views.{StartsWith, HasNoPlaceSince, GoesOn}
 
--- what is no function of the history: what each caller has announced, whose seat its pass is and whose its announced call, which seat is the registrar's, the first caller with no pass yet, what each caller has begun with a slot, and the registrar as caller 0, and whose seat can publish a warming generation
+-- what is no function of the history: what each caller has announced, whose seat its pass is and whose its announced call, which seat is the registrar's, the first caller with no pass yet, what each caller has begun with a slot, and the registrar as caller 0, whose seat can publish a warming generation, and what the doors show that the registrar lays
 pub record World (U X L : Type 0) : Type 0 where
   pub log : List (Entry U X L)
   pub pending : ℕ → Option (Asked U)
@@ -32,6 +33,7 @@ pub record World (U X L : Type 0) : Type 0 where
   pub next : ℕ
   pub tasks : ℕ → Task
   pub fresh_at : ℕ → ℕ
+  pub filling : Option X
 
 -- the first seat, which has the passes of all callers until they are dealt
 abbrev pub opened : {W U X L : Type 0} → Plan W → Known W U X L
@@ -49,6 +51,7 @@ opened p = record {
   registrar = true;
   next = 1;
   back = [];
+  filling = None;
 }
 
 module _ {U X L : Type 0} (w : World U X L) (id : ℕ) where
@@ -84,6 +87,7 @@ module _ {W U X L : Type 0} (w : World U X L) (id : ℕ) where
     pub next : k.next ≡ w.next
     pub nobody : k.caller ≡ 0
     pub task : k.task ≡ w.tasks 0
+    pub filling : k.filling ≡ w.filling
 
 -- what a seat knows is true
 pub record Fits {W U X L : Type 0} (p : Plan W) (w : World U X L) (id : ℕ) (k : Known W U X L) : Type 0 where
@@ -131,11 +135,12 @@ pub record Two {W U X L : Type 0} (p : Plan W) (log : List (Entry U X L)) (words
 abbrev pub released : {U X L : Type 0} → List (Entry U X L) → ℕ → ℕ
 released log g = count_by (releases g) log
 
--- There is one legal history. (Part four will be on doors.)
-pub record Kept {D W U X L : Type 0} (p : Plan W) (s : State (Cell D U) (Known W U X L)) : Type 0 where
+-- There is one legal history.
+pub record Kept {D W U X L : Type 0} (setting : D → W) (docs : D → X) (p : Plan W) (s : State (Cell D U) (Known W U X L)) : Type 0 where
   pub words : length s.words ≡ word_count
   pub world : World U X L
   pub legal : Legal (limits p) world.log
   pub one : One p world s.words s.views
   pub two : Two p world.log s.words
   pub three : Three p (state_of (limits p) world.log) (released world.log) (world.tasks 0) world.tasks s.words
+  pub four : Four setting docs p (state_of (limits p) world.log) (shown_in world.log) (world.tasks 0) world.filling s.homes

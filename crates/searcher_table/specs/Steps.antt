@@ -3,7 +3,7 @@ use Rattle.std.specs.Prelude.{◌≡◌, ◌≢◌, ◌⊎◌, ℕ, ◌+◌, ◌
 use Rattle.std.specs.Int.{trailing_zeros}
 use mir.Syntax.{w64}
 use mathlib.Core.Option.{some}
-use Rattle.atomic_table.specs.Table.{Me, Step}
+use Rattle.atomic_table.specs.Table.{Me, Step, rest}
 use Rattle.registry_machine.specs.declared.entry.Entry.{Entry}
 use Rattle.registry_machine.specs.declared.entry.Entry.TheVariants.{Open, TooMany, GenerationsSpent, Update, Finish, Superseded, Acquire, NotYet, Release, Free}
 use Rattle.registry_machine.specs.Machine.{Limits}
@@ -18,9 +18,10 @@ use Rattle.searcher_table.specs.declared.board.Plan.{Plan}
 use Rattle.searcher_table.specs.declared.board.Hand.{Hand}
 use Rattle.searcher_table.specs.declared.board.Known.{Known}
 use Rattle.searcher_table.specs.declared.board.Task.{Task}
-use Rattle.searcher_table.specs.declared.board.Task.TheVariants.{Idle, Found, Claimed, Cleared, Unsettled, Duty}
+use Rattle.searcher_table.specs.declared.board.Task.TheVariants.{Idle, Found, Claimed, Filled, Filling, Unsettled, Duty}
 use Rattle.searcher_table.specs.declared.board.Fresh.{Fresh}
 use Rattle.searcher_table.specs.Words.{slot_word, limits}
+use Rattle.searcher_table.specs.Doors.{cell_of, shown_in, IsDoor}
 use Rattle.searcher_table.specs.Counts.{releases, pinned}
 use Rattle.searcher_table.specs.Views.{StartsWith, HasNoPlaceSince, GoesOn}
 
@@ -90,6 +91,7 @@ module _ {W U X L : Type 0} where
     registrar = false;
     next = 0;
     back = [];
+    filling = None;
   }
 
   -- what was announced or opened goes to a seat of its own, which has seen as much
@@ -193,25 +195,37 @@ module _ {W U X L : Type 0} where
     Executed step before stored after = (h : Hand U) (p : Plan W) → before.0.hand ≡ Some h → before.0.plan ≡ Some p
         → HasExecuted (answer_of h.asked.call p before.0.seen h) before.0.task before.0.fresh before after
 
-    -- the opening in hand has the next generation, in the slot that was cleared, with the documents of this door
-    abbrev pub Opened : (D → X) → Step (Cell D U) → Me (Cell D U) (Known W U X L) → ℕ → Me (Cell D U) (Known W U X L) → Type 0
-    Opened docs step before found after = (h : Hand U) (p : Plan W) (slot : ℕ) (door : D) → before.0.hand ≡ Some h → before.0.plan ≡ Some p → before.0.task ≡ Cleared slot → step.said ≡ some (Full door)
-        → HasExecuted (opening_of p before.0.seen h slot (docs door)) Idle (Some (record { generation = (state_of (limits p) before.0.seen).last_opened + 1; slot = slot })) before after
+    -- the opening in hand has the next generation, in the slot that was filled, with the documents that its doors show
+    abbrev pub Opened : Step (Cell D U) → Me (Cell D U) (Known W U X L) → ℕ → Me (Cell D U) (Known W U X L) → Type 0
+    Opened step before found after = (h : Hand U) (p : Plan W) (slot n : ℕ) (shown : X) → before.0.hand ≡ Some h → before.0.plan ≡ Some p → before.0.task ≡ Filled slot n → before.0.filling ≡ Some shown
+        → HasExecuted (opening_of p before.0.seen h slot shown) Idle (Some (record { generation = (state_of (limits p) before.0.seen).last_opened + 1; slot = slot })) before after
 
     -- the caller has this entry last, behind those that it had and, where what it had announced was executed meanwhile, that call's one
     pub record HasMade (e : Entry U X L) (task : Task) (before new : Me (Cell D U) (Known W U X L)) : Type 0 where
       pub entered : HasExecuted e task before.0.fresh before new
       pub calls : 1 ≤ before.0.caller → GoesOn before.0.caller before.0.mine before.0.announced (mine before.0.caller entered.log) (entered.pending before.0.caller)
 
-    -- the current word counts one acquire more
-    pub record Acquired (step : Step (Cell D U)) (before : Me (Cell D U) (Known W U X L)) (found : ℕ) (new : Me (Cell D U) (Known W U X L)) : Type 0 where
-      pub made : HasMade (acquire_of before.0.caller found) before.0.task before new
-      pub tells : (p : Plan W) → before.0.plan ≡ Some p → TellsCurrent (limits p) made.entered.log found
+    -- the seat has what lay in the cell
+    abbrev pub HasOut : ℕ → Cell D U → Me (Cell D U) (Known W U X L) → Me (Cell D U) (Known W U X L) → Type 0
+    HasOut cell x before new = new.1 ≡ (cell, x) ∷ before.1
 
-    -- the generation that the caller pinned is released, and its slot is to be freed where the word says so
+    -- and that is a door that shows these documents
+    pub record HasDoor (setting : D → W) (docs : D → X) (cell : ℕ) (shown : Option X) (before new : Me (Cell D U) (Known W U X L)) : Type 0 where
+      pub door : D
+      pub out : HasOut cell (Full door) before new
+      pub is_door : (p : Plan W) → before.0.plan ≡ Some p → IsDoor setting docs p shown door
+
+    -- the current word counts one acquire more, and where it had a generation, the caller has its door to it
+    pub record Acquired (setting : D → W) (docs : D → X) (step : Step (Cell D U)) (before : Me (Cell D U) (Known W U X L)) (found : ℕ) (new : Me (Cell D U) (Known W U X L)) : Type 0 where
+      pub made : HasMade (acquire_of before.0.caller found) before.0.task before (new.0, before.1)
+      pub tells : (p : Plan W) → before.0.plan ≡ Some p → TellsCurrent (limits p) made.entered.log found
+      pub early : found / 549755813888 ≡ 0 → new.1 ≡ before.1
+      pub lent : found / 549755813888 ≢ 0 → HasDoor setting docs (cell_of (found / 4294967296 % 128) before.0.caller) (shown_in new.0.seen (found / 549755813888)) before new
+
+    -- the generation that the caller pinned is released, its door is at home, and its slot is to be freed where the word says so
     abbrev pub Released : Step (Cell D U) → Me (Cell D U) (Known W U X L) → ℕ → Me (Cell D U) (Known W U X L) → Type 0
     Released step before found after = (slot g : ℕ) → step.word ≡ slot_word slot → pinned before.0.caller before.0.mine ≡ Some g
-        → HasMade (Release before.0.caller g []) (duty_by found slot g) before after
+        → HasMade (Release before.0.caller g []) (duty_by found slot g) before (after.0, before.1) × (after.1 ≡ rest before.1)
 
     -- the slot is free again
     abbrev pub Freed : Step (Cell D U) → Me (Cell D U) (Known W U X L) → ℕ → Me (Cell D U) (Known W U X L) → Type 0
@@ -237,11 +251,27 @@ module _ {W U X L : Type 0} where
 
     -- and its word is 0; it is open for none
     pub record HasWiped (slot : ℕ) (before new : Me (Cell D U) (Known W U X L)) : Type 0 where
-      pub turned : HasTurned (Cleared slot) before.0.fresh before new
+      pub turned : HasTurned (Filled slot 0) before.0.fresh before new
       pub free : (p : Plan W) → before.0.plan ≡ Some p → (slot < (limits p).slots) × ((state_of (limits p) turned.log).slots slot ≡ None)
 
     abbrev pub Wiped : Step (Cell D U) → Me (Cell D U) (Known W U X L) → ℕ → Me (Cell D U) (Known W U X L) → Type 0
     Wiped step before stored after = (slot : ℕ) → before.0.task ≡ Claimed slot → HasWiped slot before after
+
+    -- the next caller's cell is the registrar's
+    pub record HasReached (slot n : ℕ) (before new : Me (Cell D U) (Known W U X L)) : Type 0 where
+      pub turned : HasTurned (Filling slot n) before.0.fresh before (new.0, before.1)
+      pub old : Cell D U
+      pub out : HasOut (cell_of slot (n + 1)) old before new
+
+    abbrev pub Reached : Step (Cell D U) → Me (Cell D U) (Known W U X L) → ℕ → Me (Cell D U) (Known W U X L) → Type 0
+    Reached step before found after = (slot n : ℕ) → before.0.task ≡ Filled slot n → HasReached slot n before after
+
+    -- and it is at home again, with a door that shows these documents
+    abbrev pub filling_with : Me (Cell D U) (Known W U X L) → X → Me (Cell D U) (Known W U X L)
+    filling_with before shown = (record before.0 { filling = Some shown }, rest before.1)
+
+    abbrev pub Laid : (D → X) → Step (Cell D U) → Me (Cell D U) (Known W U X L) → ℕ → Me (Cell D U) (Known W U X L) → Type 0
+    Laid docs step before found after = (slot n : ℕ) (d : D) → before.0.task ≡ Filling slot n → before.1 ≡ (cell_of slot (n + 1), Full d) ∷ [] → HasTurned (Filled slot (n + 1)) before.0.fresh (filling_with before (docs d)) after
 
     -- ---- the end of a warming
 

@@ -3,14 +3,15 @@ use Rattle.std.specs.Prelude.{◌≡◌, ◌≢◌, ℕ, ◌+◌, ◌*◌, ◌<�
 use Rattle.registry_machine.specs.Machine.{Limits, State, is_in, is_some_of}
 use Rattle.searcher_table.specs.declared.board.Plan.{Plan}
 use Rattle.searcher_table.specs.declared.board.Task.{Task}
-use Rattle.searcher_table.specs.declared.board.Task.TheVariants.{Idle, Found, Claimed, Cleared, Unsettled, Duty}
+use Rattle.searcher_table.specs.declared.board.Task.TheVariants.{Idle, Found, Claimed, Filled, Filling, Unsettled, Duty}
 use Rattle.searcher_table.specs.declared.board.Fresh.{Fresh}
 use Rattle.searcher_table.specs.Words.{slot_word, bit_of, limits}
 
 -- the slot that the registrar has claimed, and the generation whose acquires it has not told yet
 abbrev pub claimed : Task → Option ℕ
 claimed (Claimed slot) = Some slot
-claimed (Cleared slot) = Some slot
+claimed (Filled slot n) = Some slot
+claimed (Filling slot n) = Some slot
 claimed _ = None
 
 abbrev pub unsettled : Task → Option ℕ
@@ -62,7 +63,8 @@ abbrev pub IsTask : {W : Type 0} → Plan W → State → Task → (ℕ → ℕ)
 IsTask p s own released words c Idle = Unit {0}
 IsTask p s own released words c (Found slot) = (c ≡ 0) × IsFree (limits p) s own slot
 IsTask p s own released words c (Claimed slot) = (c ≡ 0) × (slot < (limits p).slots) × (s.slots slot ≡ None)
-IsTask p s own released words c (Cleared slot) = (c ≡ 0) × IsClear (limits p) s words slot
+IsTask p s own released words c (Filled slot n) = (c ≡ 0) × IsClear (limits p) s words slot
+IsTask p s own released words c (Filling slot n) = (c ≡ 0) × IsClear (limits p) s words slot
 IsTask p s own released words c (Unsettled slot g total) = (c ≡ 0) × IsUnsettled s slot g total
 IsTask p s own released words c (Duty slot g) = IsDuty p s own released c slot g
 

@@ -6,7 +6,7 @@ use Rattle.searcher_table.specs.declared.board.Call.{Call}
 use Rattle.searcher_table.specs.declared.board.Call.TheVariants.{Open, Update}
 use Rattle.searcher_table.specs.declared.board.Asked.{Asked}
 use Rattle.searcher_table.specs.declared.board.Cell.{Cell}
-use Rattle.searcher_table.specs.declared.board.Cell.TheVariants.{Said}
+use Rattle.searcher_table.specs.declared.board.Cell.TheVariants.{Full, Said}
 use Rattle.searcher_table.specs.declared.board.Plan.{Plan}
 
 abbrev pub word_count : ℕ
@@ -47,6 +47,10 @@ code (Some asked) = code_of asked.call
 -- the cell says what is announced
 abbrev pub IsSaid : {D U : Type 0} → Cell D U → Type 0
 IsSaid {D} {U} cell = (asked : Asked U) × (cell ≡ Said asked)
+
+-- the cell has a door
+abbrev pub IsFull : {D U : Type 0} → Cell D U → Type 0
+IsFull {D} {U} cell = (door : D) × (cell ≡ Full door)
 
 -- the last generation that can be opened
 abbrev pub last_generation : ℕ

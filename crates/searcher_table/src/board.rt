@@ -79,14 +79,14 @@ pub enum Cell<D, U> {
     Empty,
     /// A caller's door to the searcher of the slot.
     Full(D),
-    /// What a caller announces. No cell holds it: it tells a step's proof what is announced.
+    /// What a caller announces. No cell has it: it tells a step's proof what is announced.
     Said(Asked<U>),
 }
 
 impl<D: Drop, U: Drop> Cell<D, U> {
     ghost use Rattle.std.specs.Prelude.{◌≡◌};
-    ghost use Rattle.searcher_table.specs.declared.board.Cell.TheVariants.{Said};
-    ghost use Rattle.searcher_table.specs.Words.{IsSaid};
+    ghost use Rattle.searcher_table.specs.declared.board.Cell.TheVariants.{Full, Said};
+    ghost use Rattle.searcher_table.specs.Words.{IsFull, IsSaid};
 
     // What is said, where something is.
     pub(crate) fn asked(self) -> Asked<U>
@@ -96,6 +96,18 @@ impl<D: Drop, U: Drop> Cell<D, U> {
         match self {
             Cell::Said(asked) => asked,
             Cell::Full(_door) => unreachable!(),
+            Cell::Empty => unreachable!(),
+        }
+    }
+
+    // The door, where there is one.
+    pub(crate) fn door(self) -> D
+        requires { IsFull self }
+        ensures { self ≡ Full result }
+    {
+        match self {
+            Cell::Full(door) => door,
+            Cell::Said(_asked) => unreachable!(),
             Cell::Empty => unreachable!(),
         }
     }
@@ -135,9 +147,15 @@ pub enum Task {
     Claimed {
         slot: u32,
     },
-    /// The slot was claimed, and its word is 0.
-    Cleared {
+    /// The slot was claimed, its word is 0, and the cells of so many callers have doors for an opening.
+    Filled {
         slot: u32,
+        count: u32,
+    },
+    /// The same, while the next caller's cell is out.
+    Filling {
+        slot: u32,
+        count: u32,
     },
     /// The generation in the slot is neither warming nor current any more, and its acquires, so many, are not told to
     /// the slot's word yet.
@@ -187,6 +205,8 @@ pub struct Known<W, U, X, L> {
     pub next: u32,
     /// Of the registrar, the callers whose passes it took back.
     pub back: LinkedList<Own<U, X, L>>,
+    /// Of the registrar, what the doors show that it has laid into a slot for an opening.
+    pub filling: Option<X>,
 }
 
 pub struct Registry<D, U> {
@@ -200,7 +220,7 @@ impl<D: Shown, U: Drop> TableRule<
 > for Registry<D, U> {
     ghost use Rattle.searcher_table.specs.Rule.{Kept, opened};
 
-    ghost holds = { Kept };
+    ghost holds = { Kept D.setting D.docs };
 
     ghost first = { opened };
 }

@@ -4,7 +4,7 @@
 // it. By the rule some slot is free whenever it may open.
 ghost use Rattle.std.specs.Prelude.{◌≡◌, ◌<◌};
 ghost use Rattle.std.specs.Arc.{arc_value};
-ghost use Rattle.searcher_table.specs.declared.board.Task.TheVariants.{Idle, Found, Cleared};
+ghost use Rattle.searcher_table.specs.declared.board.Task.TheVariants.{Idle, Found, Filled};
 ghost use Rattle.searcher_table.specs.Claims.{IsOpener, HasRoom, HasBegun, IsForNone};
 
 use crate::board::{MASKS, Place, SLOTS, SharedTable};
@@ -44,7 +44,7 @@ pub(crate) fn claim<D: Shown, U: Drop>(
     requires room { HasRoom (arc_value table.now).shared.key place.old.me.0 }
     ensures table { place.new.table_id ≡ place.old.table_id }
     ensures id { place.new.me.1 ≡ place.old.me.1 }
-    ensures begun { HasBegun (arc_value table.now).shared.key place.old.me.0 place.new.me.0 (Cleared result) }
+    ensures begun { HasBegun (arc_value table.now).shared.key place.old.me.0 place.new.me.0 (Filled result 0) }
     ensures free { IsForNone (arc_value table.now).shared.key place.new.me.0 result }
 {
     let slot = find(table, place);

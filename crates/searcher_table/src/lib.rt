@@ -7,6 +7,7 @@
 
 mod board;
 mod claim;
+mod fill;
 mod gens;
 mod making;
 mod pass;

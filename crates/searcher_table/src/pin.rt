@@ -1,18 +1,20 @@
-ghost use Rattle.std.specs.Prelude.{◌≡◌, ◌≤◌, ◌<◌, [], Some, None, count_by};
+ghost use Rattle.std.specs.Prelude.{◌≡◌, ◌≤◌, ◌<◌, [], ◌∷◌, Some, None, count_by};
 ghost use Rattle.std.specs.Arc.{arc_value};
 ghost use Rattle.registry_machine.specs.Callers.{mine};
 ghost use Rattle.searcher_table.specs.declared.board.Task.TheVariants.{Idle};
+ghost use Rattle.searcher_table.specs.declared.board.Cell.TheVariants.{Empty};
 ghost use Rattle.searcher_table.specs.Counts.{is_acquire, pinned};
+ghost use Rattle.searcher_table.specs.Doors.{cell_of};
 ghost use Rattle.searcher_table.specs.Warming.{IsOpenFor};
 
-use crate::board::{CURRENT, GENERATION, MASKS, Place, SLOT, SLOTS, SharedTable};
+use crate::board::{CELLS, CURRENT, Cell, GENERATION, MASKS, Place, SLOT, SLOTS, SharedTable};
 use crate::pass::Pass;
 use crate::plays::{Acquire, Free, HandOut, Release};
 use crate::shown::Shown;
 use crate::tokens::Sighting;
 
 /// A caller's hold on the generation that was current when it acquired, for one thread at a time. The generation's slot
-/// stays its own until the pin is released; a pin that is dropped keeps it.
+/// stays its own until the pin is released; a pin that is dropped keeps it, and the door is lost.
 #[derive(Drop)]
 pub struct Pin<D: Shown, U: Drop> {
     pub(crate) caller: u32,
@@ -23,6 +25,8 @@ pub struct Pin<D: Shown, U: Drop> {
     pub(crate) ticket: u32,
     // The slot of the generation.
     pub(crate) slot: u32,
+    // The caller's door to it.
+    pub(crate) door: D,
     pub(crate) place: Place<D, U, D::Setting, D::Docs, D::Deed>,
     pub(crate) table: SharedTable<D, U, D::Setting, D::Docs, D::Deed>,
     ghost at_table: { place.table_id ≡ (arc_value table).shared.table_id },
@@ -40,7 +44,7 @@ pub struct Pin<D: Shown, U: Drop> {
     ghost empty_handed: { place.me.0.hand ≡ None },
     ghost idle: { place.me.0.task ≡ Idle },
     ghost none_back: { place.me.0.back ≡ [] },
-    ghost bare: { place.me.1 ≡ [] },
+    ghost out: { place.me.1 ≡ (cell_of slot caller, Empty) ∷ [] },
 }
 
 /// Why nothing was acquired.
@@ -54,15 +58,17 @@ pub enum AcquireRefusal {
 
 impl<D: Shown, U: Drop> Pass<D, U> {
     ghost use Rattle.std.specs.Prelude.{IfOk, IfErr};
-    ghost use Rattle.searcher_table.specs.Pins.{HasAcquired, IsNotAcquired};
+    ghost use Rattle.searcher_table.specs.Pins.{HasAcquired, IsNotAcquired, IsDoorOf};
 
-    /// Acquires what is current. It is one addition to the current word, takes no memory and doesn't wait.
+    /// Acquires what is current, with the caller's door to it. It is one addition to the current word, takes no memory and
+    /// doesn't wait.
     ///
     /// # Errors
     /// The pass comes back with an [`AcquireRefusal`]: `Spent` exactly where it has acquired as often as it may, and then no
     /// step is made; else `NotYet` exactly where nothing was current.
     pub fn acquire(self) -> Result<Pin<D, U>, (Pass<D, U>, AcquireRefusal)>
         ensures acquired { IfOk result (λ pin. HasAcquired self pin) }
+        ensures door { IfOk result (λ pin. IsDoorOf D.setting D.docs pin) }
         ensures refused { IfErr result (λ r. IsNotAcquired self r.0 r.1) }
     {
         if self.made >= self.budget {
@@ -89,13 +95,17 @@ impl<D: Shown, U: Drop> Pass<D, U> {
             };
             return Err((pass, AcquireRefusal::NotYet));
         }
+        let slot = (word / SLOT % 128) as u32;
+        let cell = CELLS * slot as usize + caller as usize - 1;
+        let door = table.shared.exchange(&mut place, cell, Cell::Empty).door();
         Ok(Pin {
             caller,
             made,
             budget,
             generation,
             ticket: (word % SLOT) as u32,
-            slot: (word / SLOT % 128) as u32,
+            slot,
+            door,
             place,
             table,
         })
@@ -104,7 +114,9 @@ impl<D: Shown, U: Drop> Pass<D, U> {
 
 impl<D: Shown, U: Drop> Pin<D, U> {
     ghost use Rattle.std.specs.Prelude.{◌≡◌, ◌+◌, ◌*◌, ◌<◌};
-    ghost use Rattle.searcher_table.specs.Pins.{HasReleased, IsSamePin, IsSightingOf};
+    ghost use Rattle.std.specs.Borrow.{sem};
+    ghost use Rattle.searcher_table.specs.Lending.{lends_door};
+    ghost use Rattle.searcher_table.specs.Pins.{HasReleased, IsSamePin, IsSightingOf, IsDoorOf};
 
     /// The caller's number, from 1 on.
     pub fn caller(&self) -> u32
@@ -127,6 +139,14 @@ impl<D: Shown, U: Drop> Pin<D, U> {
         self.ticket
     }
 
+    /// The caller's door to the generation's searcher, to look and to write through.
+    pub fn door(&mut self) -> &mut D
+        ensures* lends { sem 𝓛 (lends_door D.row U.row D.Setting.row D.Docs.row D.Deed.row D.Shown self.entry result) }
+        ensures value { result.now ≡ self.old.door }
+    {
+        &mut self.door
+    }
+
     /// What this pin's pass has seen, for another one to meet. It takes no memory and doesn't wait.
     pub fn note(&mut self) -> Sighting<D, U>
         ensures pin { IsSamePin self.old self.new }
@@ -136,9 +156,10 @@ impl<D: Shown, U: Drop> Pin<D, U> {
         Sighting { place }
     }
 
-    /// Lets the generation go. It is one addition to the slot's word and, where nobody uses the generation any more, one
-    /// step more, which frees its slot. It takes no memory and doesn't wait.
+    /// Lets the generation go, and puts the door back. It is one addition to the slot's word and, where nobody uses the
+    /// generation any more, one step more, which frees its slot. It takes no memory and doesn't wait.
     pub fn release(self) -> Pass<D, U>
+        requires door { IsDoorOf D.setting D.docs self }
         ensures { HasReleased self result }
     {
         let Pin {
@@ -148,9 +169,12 @@ impl<D: Shown, U: Drop> Pin<D, U> {
             generation: _,
             ticket: _,
             slot,
+            door,
             mut place,
             table,
         } = self;
+        let cell = CELLS * slot as usize + caller as usize - 1;
+        table.shared.exchange(&mut place, cell, Cell::Full(door));
         let word = SLOTS + 8 * slot as usize;
         let found = table.shared.fetch_add::<Release>(&mut place, word, 1);
         if found / SLOT != found % SLOT + 2 {

@@ -1,6 +1,6 @@
 // The kinds of step, which are for the proofs alone.
 ghost use Rattle.searcher_table.specs.Steps.{Looked, Peeked, Announced, Withdrawn, Executed, kept_back, handed_out, keeps_others, dealt_out, joined, taken_back, spent};
-ghost use Rattle.searcher_table.specs.Steps.{Opened, Acquired, Released, Freed, Scanned, ScannedOn, Took, Wiped, Published, Superseding, Settled, still, told_of};
+ghost use Rattle.searcher_table.specs.Steps.{Opened, Acquired, Released, Freed, Scanned, ScannedOn, Took, Wiped, Reached, Laid as was_laid, Published, Superseding, Settled, still, told_of};
 
 use crate::board::{Cell, Known};
 use crate::shown::Shown;
@@ -45,14 +45,14 @@ impl<D: Shown, U> Play<Cell<D, U>, Known<D::Setting, U, D::Docs, D::Deed>> for E
 pub(crate) struct OpenNext;
 
 impl<D: Shown, U> Play<Cell<D, U>, Known<D::Setting, U, D::Docs, D::Deed>> for OpenNext {
-    ghost then = { Opened D.docs };
+    ghost then = { Opened };
 }
 
 // The current word counts one acquire more, and the caller has its entry.
 pub(crate) struct Acquire;
 
 impl<D: Shown, U> Play<Cell<D, U>, Known<D::Setting, U, D::Docs, D::Deed>> for Acquire {
-    ghost then = { Acquired };
+    ghost then = { Acquired D.setting D.docs };
 }
 
 // The word of a slot counts one release more, and the caller has its entry.
@@ -95,6 +95,20 @@ pub(crate) struct Wipe;
 
 impl<D: Shown, U> Play<Cell<D, U>, Known<D::Setting, U, D::Docs, D::Deed>> for Wipe {
     ghost then = { Wiped };
+}
+
+// The cell of the next caller is taken out of the slot that is filled.
+pub(crate) struct Reach;
+
+impl<D: Shown, U> Play<Cell<D, U>, Known<D::Setting, U, D::Docs, D::Deed>> for Reach {
+    ghost then = { Reached };
+}
+
+// It is back, with a door.
+pub(crate) struct Lay;
+
+impl<D: Shown, U> Play<Cell<D, U>, Known<D::Setting, U, D::Docs, D::Deed>> for Lay {
+    ghost then = { was_laid D.docs };
 }
 
 // A warming generation is current.

@@ -6,9 +6,10 @@ ghost use Rattle.searcher_table.specs.Warming.{listed, last_in, current_in, warm
 ghost use Rattle.searcher_table.specs.declared.board.Task.TheVariants.{Idle};
 
 use crate::board::{
-    CALLS, CURRENT, Cell, GENERATION, LAST_GENERATION, Link, Place, REGISTRAR, SLOT, SharedTable,
+    CALLS, CURRENT, GENERATION, LAST_GENERATION, Link, Place, REGISTRAR, SLOT, SharedTable,
 };
 use crate::claim::claim;
+use crate::fill::fill;
 use crate::gens::Gens;
 use crate::pass::Pass;
 use crate::plays::{Execute, Gather, HandOut, Look, OpenNext, Peek, TakeBack};
@@ -135,16 +136,13 @@ impl<D: Shown, U: Drop> Registrar<D, U> {
     }
 
     // Opens the next generation.
-    fn open(&mut self, call: Announced<D, U>, mut doors: Vec<D>) -> Opening<D, U>
+    fn open(&mut self, call: Announced<D, U>, doors: Vec<D>) -> Opening<D, U>
         requires call { IsOpenHere self.old call }
         requires room { places_of self.old < 18446744073709551615 }
         requires may { MayOpen self.old }
         requires doors { AreDoors D.setting D.docs D.list self.old doors.items }
         ensures { HasOpened D.docs self.old self.new call doors.items result }
     {
-        let Some(door) = doors.pop() else {
-            unreachable!()
-        };
         let Some(link) = self.spare.pop() else {
             unreachable!()
         };
@@ -154,11 +152,11 @@ impl<D: Shown, U: Drop> Registrar<D, U> {
             place,
         } = call;
         let slot = claim(&self.table, &mut self.place);
+        fill(&self.table, &mut self.place, slot, doors);
         let word = CALLS + 8 * caller as usize;
-        let said = Cell::Full(door);
         let shared = &self.table.shared;
         shared.join_seat::<Gather>(&mut self.place, place);
-        shared.compare_exchange_with::<OpenNext>(&mut self.place, word, 1, 0, &said);
+        shared.compare_exchange::<OpenNext>(&mut self.place, word, 1, 0);
         let seat = shared.split_seat::<HandOut>(&mut self.place);
         let at = self.places;
         self.places += 1;
