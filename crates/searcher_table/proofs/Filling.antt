@@ -1,10 +1,9 @@
 -- Laying doors into the slot that was claimed keeps the rule: a cell is taken out, and is back with a door.
-use Rattle.std.proofs.Common.{◌≡◌, ◌≢◌, ℕ, zero, suc, ◌+◌, ◌<◌, true, List, [], ◌∷◌, ◌++◌, set, sym, refl, ap, ◌∙◌, subst, arith, Option, Some, None}
+use Rattle.std.proofs.Common.{◌≡◌, ◌≢◌, ℕ, zero, suc, ◌+◌, ◌<◌, true, List, [], ◌∷◌, set, sym, refl, ap, ◌∙◌, subst, arith, Option, Some, None}
 use mathlib.Core.Option.{some}
 use mathlib.Core.Option as maybe
 use lib.ListN.{get_elem?}
 use Rattle.std.specs.Prelude.{slice_index}
-use Rattle.std.specs.List.{AllByRecursion}
 use Rattle.std.proofs.lemmas.Option.{none-some}
 use Rattle.atomic_table.specs.Table.{State, Me, Allows, stepped, takes, gives, step, rest, homes_after}
 use Rattle.registry_machine.specs.Machine.{State as MachineState}
@@ -39,11 +38,6 @@ module _ {A : Type 0} where
   set_twice [] i a b = refl
   set_twice (x ∷ xs) zero a b = refl
   set_twice (x ∷ xs) (suc i) a b = ap (λ l. x ∷ l) (set_twice xs i a b)
-
--- what holds of each of a list holds of all but the last
-pub all_but_last : {A : Type 0} (F : A → Type 0) (xs : List A) (a : A) → AllByRecursion F (xs ++ a ∷ []) → AllByRecursion F xs
-all_but_last F [] a all = tt
-all_but_last F (x ∷ xs) a all = (all.0, all_but_last F xs a all.1)
 
 module _ {W U X L : Type 0} where
   -- what a seat knows stays true, where the registrar fills with this

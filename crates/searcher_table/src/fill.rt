@@ -43,7 +43,7 @@ pub(crate) fn fill<D: Shown, U: Drop>(
     table: &SharedTable<D, U, D::Setting, D::Docs, D::Deed>,
     place: &mut Place<D, U, D::Setting, D::Docs, D::Deed>,
     slot: u32,
-    mut doors: Vec<D>,
+    doors: Vec<D>,
 )
     requires table { place.old.table_id ≡ (arc_value table.now).shared.table_id }
     requires sized { place.old.table_id.words ≡ 1168 }
@@ -59,11 +59,9 @@ pub(crate) fn fill<D: Shown, U: Drop>(
     ensures filled { HasFilled D.docs (arc_value table.now).shared.key place.old.me.0 place.new.me.0 slot doors.items }
     ensures bare { place.new.me.1 ≡ [] }
 {
-    let callers = doors.len() as u32;
-    for count in 0..callers {
-        let Some(door) = doors.pop() else {
-            unreachable!()
-        };
+    let mut count = 0;
+    for door in doors {
         lay(table, place, slot, count, door);
+        count += 1;
     }
 }
