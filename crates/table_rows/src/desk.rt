@@ -8,10 +8,11 @@ use searcher_table::{
 };
 use std::alloc::Global;
 
-/// A door that shows a number.
+/// A door that shows a number. Its mark tells it from others.
 #[derive(Drop)]
 pub(crate) struct Door {
     pub(crate) number: u32,
+    pub(crate) mark: u32,
 }
 
 impl Shown for Door {
@@ -37,6 +38,8 @@ pub(crate) struct Desk {
     registrar: Registrar<Door, u32>,
     callers: u32,
     places: u64,
+    // How many lists of doors it has made.
+    lists: u32,
     ghost ready: { IsReady registrar pass },
     ghost setting: { (plan_of registrar).setting.value ≡ 0 },
     ghost for_each: { (plan_of registrar).callers ≡ callers },
@@ -70,15 +73,16 @@ pub(crate) fn hold(pass: Pass<Door, u32>) -> (Pass<Door, u32>, Result<(u32, u32)
     }
 }
 
-// So many doors that show 9.
-fn doors(alloc: Global, count: u32) -> Option<Vec<Door>>
+// So many doors that show 9. Their marks are those behind this one.
+fn doors(alloc: Global, count: u32, first: u32) -> Option<Vec<Door>>
     ensures { IfSome result (λ doors. AreShowing (λ d. d.number) 9 count doors.items) }
 {
     let Ok(mut doors) = Vec::with_capacity(alloc, count as usize) else {
         return None;
     };
-    for _ in 0..count {
-        doors.push_reserved(Door { number: 9 });
+    for index in 0..count {
+        let mark = first.wrapping_add(index + 1);
+        doors.push_reserved(Door { number: 9, mark });
     }
     Some(doors)
 }
@@ -113,23 +117,26 @@ pub(crate) fn start(
         registrar,
         callers,
         places: 0,
+        lists: 0,
     };
     Some((passes, desk))
 }
 
 impl Desk {
-    /// What the next opening is answered, if there is memory.
+    /// What the next opening is answered, if there is memory. The doors of the nth list are marked `100 * n + 1` and so on.
     pub(crate) fn open(&mut self, alloc: Global) -> Option<Result<Opening<Door, u32>, OpenRefusal>>
         ensures same { IsSameRegistrar self.old.registrar self.new.registrar }
         ensures table { IfSome result (λ r. IfOk r (λ o. o.seat.table_id ≡ table_of self.new.registrar)) }
     {
         let places = self.places.checked_add(1)?;
-        let doors = doors(alloc, self.callers)?;
+        let lists = self.lists.checked_add(1)?;
+        let doors = doors(alloc, self.callers, lists.wrapping_mul(100))?;
         let call = self.pass.announce(Call::Open, 0);
         let answer = self.registrar.execute_open(call, doors);
         let note = self.registrar.note();
         self.pass.meet(note);
         self.places = places;
+        self.lists = lists;
         match answer {
             Ok(opening) => Some(Ok(opening)),
             Err((refusal, _doors)) => Some(Err(refusal)),
@@ -192,6 +199,7 @@ impl Desk {
             registrar,
             callers,
             places,
+            lists,
         } = self;
         let (pass, held) = hold(pass);
         let desk = Desk {
@@ -199,6 +207,7 @@ impl Desk {
             registrar,
             callers,
             places,
+            lists,
         };
         (desk, held)
     }

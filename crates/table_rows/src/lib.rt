@@ -6,6 +6,8 @@ mod crowd;
 #[cfg(test)]
 mod desk;
 #[cfg(test)]
+mod doors;
+#[cfg(test)]
 mod publications;
 #[cfg(test)]
 mod seats;

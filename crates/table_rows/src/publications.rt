@@ -22,7 +22,7 @@ fn last_generation(alloc: Global) -> Option<(Published, OpenRefusal)> {
     Some((published, refusal))
 }
 
-fn registered(place: u64, settled: Option<(u32, u32)>) -> Published {
+pub(crate) fn registered(place: u64, settled: Option<(u32, u32)>) -> Published {
     Published::Registered { place, settled }
 }
 

@@ -169,8 +169,8 @@ fn two_doors(alloc: Global) -> Option<Vec<Door>>
     let Ok(mut doors) = Vec::with_capacity(alloc, 2) else {
         return None;
     };
-    doors.push_reserved(Door { number: 9 });
-    doors.push_reserved(Door { number: 9 });
+    doors.push_reserved(Door { number: 9, mark: 1 });
+    doors.push_reserved(Door { number: 9, mark: 2 });
     Some(doors)
 }
 
