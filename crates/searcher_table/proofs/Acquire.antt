@@ -24,7 +24,7 @@ use Rattle.searcher_table.specs.declared.board.Task.{Task}
 use Rattle.searcher_table.specs.declared.board.Task.TheVariants.{Idle}
 use Rattle.searcher_table.specs.declared.board.Fresh.{Fresh}
 use Rattle.searcher_table.specs.Tasks.{IsTask, IsWarming, Three}
-use Rattle.searcher_table.specs.Doors.{cell_of, shown_in, IsDoor, Four}
+use Rattle.searcher_table.specs.Doors.{cell_of, told_in, IsDoorLeft, Four}
 use Rattle.searcher_table.proofs.Slotted.{three_words, three_counts, three_acquired}
 use Rattle.searcher_table.specs.Steps.{looked, acquire_of, TellsNone, TellsGeneration, TellsCurrent, Acquired}
 use Rattle.searcher_table.proofs.Frame.{put_same, covers}
@@ -33,7 +33,7 @@ use Rattle.searcher_table.proofs.Counts.{counts_last, pins_own, own_count, few_t
 use Rattle.searcher_table.proofs.Beside.{own_last, not_counted, all_snoc, few_slots, first_within}
 use Rattle.searcher_table.proofs.Quiet.{state_next}
 use Rattle.searcher_table.proofs.Standing.{bounded}
-use Rattle.searcher_table.proofs.Doors.{shown_next, fills_on, filled_none, four_beside, four_own}
+use Rattle.searcher_table.proofs.Doors.{told_next, fills_on, filled_none, four_beside, four_own}
 use Rattle.searcher_table.proofs.Pinning.{early_entry, acquire_entry}
 use Rattle.searcher_table.proofs.Current.{generation_of, count_of, small, tells}
 use Rattle.searcher_table.proofs.OwnStep.{pinned_still, acquires_still, own_step}
@@ -170,15 +170,15 @@ module _ {W U X L : Type 0} (p : Plan W) (log : List (Entry U X L)) (words : Lis
       two.current
 
 -- the act of an acquire: the caller's door is taken out of its cell, where something is current
-module _ {D W U X L : Type 0} (setting : D → W) (docs : D → X) (p : Plan W) (log : List (Entry U X L)) (c n : ℕ) (own : Task) (filling : Option X) (homes : List (maybe.Option (Cell D U))) (carried : List (ℕ × Cell D U)) where
+module _ {D W U X L : Type 0} (setting : D → W) (docs : D → X) (deeds : D → List L) (p : Plan W) (log : List (Entry U X L)) (c n : ℕ) (own : Task) (filling : Option X) (homes : List (maybe.Option (Cell D U))) (carried : List (ℕ × Cell D U)) where
   pub record Takes : Type 0 where
     pub act : Act (Cell D U)
     pub valid : Valid homes carried act
-    pub four : Four setting docs p (after (state_of (limits p) log) (acquire_of {U = U} {X = X} {L = L} c n)) (shown_in (log ++ acquire_of c n ∷ [])) own filling (homes_after homes carried act)
+    pub four : Four setting docs deeds p (after (state_of (limits p) log) (acquire_of {U = U} {X = X} {L = L} c n)) (told_in (log ++ acquire_of c n ∷ [])) own filling (homes_after homes carried act)
     pub early : n / 549755813888 ≡ 0 → carried_after carried act ≡ carried
-    pub lent : n / 549755813888 ≢ 0 → (d : D) × (carried_after carried act ≡ (cell_of (n / 4294967296 % 128) c, Full d) ∷ carried) × IsDoor setting docs p (shown_in (log ++ acquire_of c n ∷ []) (n / 549755813888)) d
+    pub lent : n / 549755813888 ≢ 0 → (d : D) × (carried_after carried act ≡ (cell_of (n / 4294967296 % 128) c, Full d) ∷ carried) × IsDoorLeft setting docs deeds p (told_in (log ++ acquire_of c n ∷ []) (n / 549755813888) c) d
 
-  takes_by : (rel : ℕ → ℕ) (words : List ℕ) → Four setting docs p (state_of (limits p) log) (shown_in log) own filling homes → p.callers ≤ 64 → 1 ≤ c → c ≤ p.callers → (state_of (limits p) log).pins c ≡ None
+  takes_by : (rel : ℕ → ℕ) (words : List ℕ) → Four setting docs deeds p (state_of (limits p) log) (told_in log) own filling homes → p.callers ≤ 64 → 1 ≤ c → c ≤ p.callers → (state_of (limits p) log).pins c ≡ None
       → IsTask p (state_of (limits p) log) own rel words 0 own → ((a b g : ℕ) → (state_of (limits p) log).slots a ≡ Some g → (state_of (limits p) log).slots b ≡ Some g → a ≡ b) → TellsCurrent (limits p) log n → Takes
   takes_by rel words four few low within free begun one told = ⊎_elim
       (λ (k : TellsNone (limits p) log n).
@@ -187,8 +187,8 @@ module _ {D W U X L : Type 0} (setting : D → W) (docs : D → X) (p : Plan W) 
       record {
         act = keeps;
         valid = tt;
-        four = subst (λ (y : Entry U X L). Four setting docs p (after (state_of (limits p) log) y) (shown_in (log ++ y ∷ [])) own filling homes) (sym e)
-            (four_beside setting docs p (state_of (limits p) log) (after {U = U} {D = X} {L = L} (state_of (limits p) log) (NotYet c)) (shown_in log) (shown_in (log ++ NotYet c ∷ [])) own own filling homes (λ _. refl) (λ _. refl) (λ h. shown_next log (NotYet c) h) (fills_on own own refl) four);
+        four = subst (λ (y : Entry U X L). Four setting docs deeds p (after (state_of (limits p) log) y) (told_in (log ++ y ∷ [])) own filling homes) (sym e)
+            (four_beside setting docs deeds p (state_of (limits p) log) (after {U = U} {D = X} {L = L} (state_of (limits p) log) (NotYet c)) (told_in log) (told_in (log ++ NotYet c ∷ [])) own own filling homes (λ _. refl) (λ _. refl) (λ h d. told_next log (NotYet c) h d) (fills_on own own refl) four);
         early = λ _. refl;
         lent = λ some. absurd (some (omega arith));
       })
@@ -206,14 +206,14 @@ module _ {D W U X L : Type 0} (setting : D → W) (docs : D → X) (p : Plan W) 
       record {
         act = takes cell (Full d.0);
         valid = d.1;
-        four = subst (λ (x : Entry U X L). Four setting docs p (after s x) (shown_in (log ++ x ∷ [])) own filling (set homes cell maybe.none)) (sym e)
-            (four_own setting docs p s now (shown_in log) (shown_in (log ++ y ∷ [])) own filling homes (set homes cell maybe.none) slot g c four few k.opened low (omega arith)
+        four = subst (λ (x : Entry U X L). Four setting docs deeds p (after s x) (told_in (log ++ x ∷ [])) own filling (set homes cell maybe.none)) (sym e)
+            (four_own setting docs deeds p s now (told_in log) (told_in (log ++ y ∷ [])) own filling homes (set homes cell maybe.none) slot g c four few k.opened low (omega arith)
             (λ b z. one b slot g z k.opened) (filled_none p s own rel words own begun)
-            (λ _. refl) (λ b other. ap (λ z. cond z (Some g) (s.pins b)) (ne_eqb b c other)) (λ h _ z. none-some h (sym free ∙ z)) (λ h. shown_next log y h)
+            (λ _. refl) (λ b other. ap (λ z. cond z (Some g) (s.pins b)) (ne_eqb b c other)) (λ h _ z. none-some h (sym free ∙ z)) (λ h d _. told_next log y h d)
             (length-set homes cell maybe.none) (λ j away. set_else homes cell j maybe.none away)
             (λ z. absurd (z (ap (λ b. cond b (Some g) (s.pins c)) (eq-eqb c c refl)))));
         early = λ zero. absurd (omega arith);
-        lent = λ _. (d.0, refl, subst (λ (o : Option X). IsDoor setting docs p o d.0) (sym (ap (λ (x : Entry U X L). shown_in (log ++ x ∷ []) g) e ∙ shown_next log y g)) d.2);
+        lent = λ _. (d.0, refl, subst (λ (o : Option X × List L). IsDoorLeft setting docs deeds p o d.0) (sym (ap (λ (x : Entry U X L). told_in (log ++ x ∷ []) g c) e ∙ told_next log y g c)) d.2);
       })
       told
 
@@ -225,10 +225,10 @@ acquire_names U X L c n = by_test (n / 549755813888 == 0)
     by_test true = (refl, refl)
     by_test false = (refl, refl)
 
-module _ {D W U X L : Type 0} (setting : D → W) (docs : D → X) (p : Plan W) where
+module _ {D W U X L : Type 0} (setting : D → W) (docs : D → X) (deeds : D → List L) (p : Plan W) where
   pub acquires_current : (slots id : ℕ) (me : Me (Cell D U) (Known W U X L)) → 1 ≤ me.0.caller → me.0.caller ≤ 64 → me.0.back ≡ [] → me.0.plan ≡ Some p
       → pinned me.0.caller me.0.mine ≡ None → me.0.task ≡ Idle → count_by is_acquire me.0.mine < p.budget
-      → Allows (Kept setting docs p) slots id me current_word (λ n. (n + 1) % 2 ^ 64) (Acquired setting docs (step slots current_word 1 0 maybe.none) me)
+      → Allows (Kept setting docs deeds p) slots id me current_word (λ n. (n + 1) % 2 ^ 64) (Acquired setting docs deeds (step slots current_word 1 0 maybe.none) me)
   acquires_current slots id me low few bare told free idle left s kept deep at bound =
       let w = kept.world in
       let k = me.0 in
@@ -247,11 +247,11 @@ module _ {D W U X L : Type 0} (setting : D → W) (docs : D → X) (p : Plan W) 
       let dealt = (all.pass low).dealt in
       let few_passes = kept.one.few in
       let told = tells p w.log s.words kept.legal kept.two in
-      let t = takes_by setting docs p w.log c n (w.tasks 0) w.filling s.homes me.1 (released w.log) s.words kept.four kept.two.sizes.callers low (omega arith) unpinned (kept.three.begun 0) (λ a b g y z. bounds.one a b g y z) told in (
+      let t = takes_by setting docs deeds p w.log c n (w.tasks 0) w.filling s.homes me.1 (released w.log) s.words kept.four kept.two.sizes.callers low (omega arith) unpinned (kept.three.begun 0) (λ a b g y z. bounds.one a b g y z) told in (
         record (looked k log w.pending) { hand = None },
         t.act,
         t.valid,
-        own_step setting docs p s kept id current_word x me e k.task t.act at low bare (omega arith) names.0 names.1 a.may a.later
+        own_step setting docs deeds p s kept id current_word x me e k.task t.act at low bare (omega arith) names.0 names.1 a.may a.later
             (subst (λ (z : ℕ → Task). Three p (after (state_of (limits p) w.log) e) (released log) (w.tasks 0) z (set s.words current_word x)) (λ j d. sym (put_same c k.task w.tasks (all.pass low).task d) j) a.slots) t.four a.warm,
         record {
           made = record {
@@ -266,6 +266,6 @@ module _ {D W U X L : Type 0} (setting : D → W) (docs : D → X) (p : Plan W) 
           };
           tells = λ q is. subst (λ (r : Plan W). TellsCurrent (limits r) w.log n) (sym (all.plan q is)) told;
           early = t.early;
-          lent = λ some. let d = t.lent some in record { door = d.0; out = d.1; is_door = λ q is. subst (λ (r : Plan W). IsDoor setting docs r (shown_in log (n / 549755813888)) d.0) (sym (all.plan q is)) d.2 };
+          lent = λ some. let d = t.lent some in record { door = d.0; out = d.1; is_door = λ q is. subst (λ (r : Plan W). IsDoorLeft setting docs deeds r (told_in log (n / 549755813888) c) d.0) (sym (all.plan q is)) d.2 };
         },
       )

@@ -64,13 +64,13 @@ leaves {W} {U} {X} {L} l asked w id k f free =
           record { here = g.here; dealt = g.dealt; mine = g.mine; none = put_else c (Some asked) w.pending o.caller n ∙ g.none };
     }
 
-module _ {D W U X L : Type 0} (setting : D → W) (docs : D → X) (p : Plan W) where
+module _ {D W U X L : Type 0} (setting : D → W) (docs : D → X) (deeds : D → List L) (p : Plan W) where
   abbrev Goes : ℕ → ℕ → Me (Cell D U) (Known W U X L) → ℕ → ℕ → Asked U → State (Cell D U) (Known W U X L) → ℕ → Type 0
-  Goes slots id me i new asked s x = (v : Known W U X L) × (a : Act (Cell D U)) × Valid s.homes me.1 a × Kept setting docs p (stepped s i x id me.1 v a)
+  Goes slots id me i new asked s x = (v : Known W U X L) × (a : Act (Cell D U)) × Valid s.homes me.1 a × Kept setting docs deeds p (stepped s i x id me.1 v a)
       × Announced (step slots i 0 new (some (Said asked))) me (slice_index s.words i) (v, carried_after me.1 a)
 
   pub announces : (slots id : ℕ) (me : Me (Cell D U) (Known W U X L)) (i new : ℕ) (asked : Asked U) → i ≡ call_word me.0.caller → 1 ≤ me.0.caller → me.0.caller ≤ 64 → new ≡ code_of asked.call → me.0.announced ≡ None → me.0.back ≡ []
-      → Allows (Kept setting docs p) slots id me i (λ n. either (n == 0) new n) (Announced (step slots i 0 new (some (Said asked))) me)
+      → Allows (Kept setting docs deeds p) slots id me i (λ n. either (n == 0) new n) (Announced (step slots i 0 new (some (Said asked))) me)
   announces slots id me i new asked at_word low few is none bare s kept deep at small =
       let w = kept.world in
       let k = me.0 in

@@ -65,8 +65,8 @@ module _ (slots : ℕ) (few : slots ≤ 70) where
       (cases_lt slot 64)
 
 module _ {D W U X L : Type 0} where
-  pub opens : (setting : D → W) (docs : D → X) (p : Plan W) (cells : List (Cell D U)) → HasSizes p → length cells ≡ (p.callers + p.max_warming + 2) * 64 → Kept {D = D} {W = W} {U = U} {X = X} {L = L} setting docs p (opening (first_words (p.callers + p.max_warming + 2)) cells (opened p))
-  opens setting docs p cells sizes count =
+  pub opens : (setting : D → W) (docs : D → X) (deeds : D → List L) (p : Plan W) (cells : List (Cell D U)) → HasSizes p → length cells ≡ (p.callers + p.max_warming + 2) * 64 → Kept {D = D} {W = W} {U = U} {X = X} {L = L} setting docs deeds p (opening (first_words (p.callers + p.max_warming + 2)) cells (opened p))
+  opens setting docs deeds p cells sizes count =
       let w : World U X L = record { log = []; pending = λ _. None; pass_at = λ _. 0; hand_at = λ _. 0; registrar_at = 0; next = 1; tasks = λ _. Idle; fresh_at = λ _. 0; filling = None } in
       let slots : ℕ = p.callers + p.max_warming + 2 in
       let few = few_slots p sizes in
@@ -116,6 +116,6 @@ module _ {D W U X L : Type 0} where
       }
 
   -- by the numbers that were put into the mask words
-  pub opens_with : (setting : D → W) (docs : D → X) (p : Plan W) (a b : ℕ) (cells : List (Cell D U)) → HasSizes p → length cells ≡ (p.callers + p.max_warming + 2) * 64 → a ≡ 2 ^ min (p.callers + p.max_warming + 2) 64 - 1 → b ≡ 2 ^ (p.callers + p.max_warming + 2 - 64) - 1
-      → Kept {D = D} {W = W} {U = U} {X = X} {L = L} setting docs p (opening (set (set (replicate 1168 0) 24 a) 32 b) cells (opened p))
-  opens_with setting docs p a b cells sizes count low high = subst (λ (z : ℕ × ℕ). Kept {D = D} {W = W} {U = U} {X = X} {L = L} setting docs p (opening (set (set (replicate 1168 0) 24 z.0) 32 z.1) cells (opened p))) (λ i. (sym low i, sym high i)) (opens setting docs p cells sizes count)
+  pub opens_with : (setting : D → W) (docs : D → X) (deeds : D → List L) (p : Plan W) (a b : ℕ) (cells : List (Cell D U)) → HasSizes p → length cells ≡ (p.callers + p.max_warming + 2) * 64 → a ≡ 2 ^ min (p.callers + p.max_warming + 2) 64 - 1 → b ≡ 2 ^ (p.callers + p.max_warming + 2 - 64) - 1
+      → Kept {D = D} {W = W} {U = U} {X = X} {L = L} setting docs deeds p (opening (set (set (replicate 1168 0) 24 a) 32 b) cells (opened p))
+  opens_with setting docs deeds p a b cells sizes count low high = subst (λ (z : ℕ × ℕ). Kept {D = D} {W = W} {U = U} {X = X} {L = L} setting docs deeds p (opening (set (set (replicate 1168 0) 24 z.0) 32 z.1) cells (opened p))) (λ i. (sym low i, sym high i)) (opens setting docs deeds p cells sizes count)

@@ -18,7 +18,7 @@ use Rattle.searcher_table.specs.declared.board.Known.{Known}
 use Rattle.searcher_table.specs.declared.board.Task.{Task}
 use Rattle.searcher_table.specs.declared.board.Task.TheVariants.{Idle, Found, Claimed, Filled, Duty}
 use Rattle.searcher_table.specs.Words.{word_count, current_word, slot_word, mask_word, bit_of, limits}
-use Rattle.searcher_table.specs.Doors.{laid, reached, shown_in, Four}
+use Rattle.searcher_table.specs.Doors.{laid, reached, told_in, Four}
 use Rattle.searcher_table.proofs.Doors.{four_begun}
 use Rattle.searcher_table.specs.Tasks.{claimed, unsettled, IsFree, IsTask, Three}
 use Rattle.searcher_table.specs.Rule.{released, Kept}
@@ -37,42 +37,42 @@ found_no_duty slot b g e = let q : Found slot ≡ Duty b g = e in absurd (cc)
 idle_no_duty : IsNoDuty Idle
 idle_no_duty b g e = let q : Idle ≡ Duty b g = e in absurd (cc)
 
-module _ {D W U X L : Type 0} (setting : D → W) (docs : D → X) (p : Plan W) where
+module _ {D W U X L : Type 0} (setting : D → W) (docs : D → X) (deeds : D → List L) (p : Plan W) where
   -- the registrar's step that changes what it has begun, and no entry
-  pub begins : (s : State (Cell D U) (Known W U X L)) (kept : Kept setting docs p s) (id i x : ℕ) (me : Me (Cell D U) (Known W U X L)) (a : Task) (act : Act (Cell D U)) → get_elem? s.views id ≡ some me.0 → me.0.registrar ≡ true → i < 640 → i ≢ current_word
+  pub begins : (s : State (Cell D U) (Known W U X L)) (kept : Kept setting docs deeds p s) (id i x : ℕ) (me : Me (Cell D U) (Known W U X L)) (a : Task) (act : Act (Cell D U)) → get_elem? s.views id ≡ some me.0 → me.0.registrar ≡ true → i < 640 → i ≢ current_word
       → Three p (state_of (limits p) kept.world.log) (released kept.world.log) a (put 0 a kept.world.tasks) (set s.words i x)
-      → Four setting docs p (state_of (limits p) kept.world.log) (shown_in kept.world.log) a kept.world.filling (homes_after s.homes me.1 act)
-      → Kept setting docs p (stepped s i x id me.1 (record (looked me.0 kept.world.log kept.world.pending) { hand = None; task = a; fresh = me.0.fresh }) act) × HasTurned a me.0.fresh me (record (looked me.0 kept.world.log kept.world.pending) { hand = None; task = a; fresh = me.0.fresh }, me.1)
+      → Four setting docs deeds p (state_of (limits p) kept.world.log) (told_in kept.world.log) a kept.world.filling (homes_after s.homes me.1 act)
+      → Kept setting docs deeds p (stepped s i x id me.1 (record (looked me.0 kept.world.log kept.world.pending) { hand = None; task = a; fresh = me.0.fresh }) act) × HasTurned a me.0.fresh me (record (looked me.0 kept.world.log kept.world.pending) { hand = None; task = a; fresh = me.0.fresh }, me.1)
   begins s kept id i x me a act at role below beside three four =
       let w = kept.world in
       let k = me.0 in
       let all = kept.one.fits id k at in
       let r = all.registrar role in (
-        turns setting docs p s kept id i x me w.log [] a k.fresh w.fresh_at act at (inr role) below (sym (append-nil w.log)) tt (inr role) kept.legal
+        turns setting docs deeds p s kept id i x me w.log [] a k.fresh w.fresh_at act at (inr role) below (sym (append-nil w.log)) tt (inr role) kept.legal
             (two_slots p w.log s.words (set s.words i x) (get_or-set_other s.words i current_word x 0 (λ z. beside (sym z))) kept.two)
             (subst (λ (n : ℕ). Three p (state_of (limits p) w.log) (released w.log) (put n a w.tasks 0) (put n a w.tasks) (set s.words i x)) (sym r.nobody) three)
-            (subst (λ (n : ℕ). Four setting docs p (state_of (limits p) w.log) (shown_in w.log) (put n a w.tasks 0) w.filling (homes_after s.homes me.1 act)) (sym r.nobody) four)
+            (subst (λ (n : ℕ). Four setting docs deeds p (state_of (limits p) w.log) (told_in w.log) (put n a w.tasks 0) w.filling (homes_after s.homes me.1 act)) (sym r.nobody) four)
             (λ j f away g. (g.here, g.warming))
             (λ f is. let g = all.fresh f is in (g.here, g.warming)),
         record { log = w.log; pending = w.pending; covers = covers p w id k all kept.legal; after = refl },
       )
 
   -- the task of the registrar, which the rule speaks of
-  pub own_is : (s : State (Cell D U) (Known W U X L)) (kept : Kept setting docs p s) (id : ℕ) (k : Known W U X L) (a : Task) → get_elem? s.views id ≡ some k → k.registrar ≡ true → k.task ≡ a → kept.world.tasks 0 ≡ a
+  pub own_is : (s : State (Cell D U) (Known W U X L)) (kept : Kept setting docs deeds p s) (id : ℕ) (k : Known W U X L) (a : Task) → get_elem? s.views id ≡ some k → k.registrar ≡ true → k.task ≡ a → kept.world.tasks 0 ≡ a
   own_is s kept id k a at role is = sym ((kept.one.fits id k at).registrar role).task ∙ is
 
   -- what fills nothing leaves the cells
-  still : (s : State (Cell D U) (Known W U X L)) (kept : Kept setting docs p s) (own a : Task) → kept.world.tasks 0 ≡ own → reached own ≡ None → (laid a).1 ≡ 0
-      → Four setting docs p (state_of (limits p) kept.world.log) (shown_in kept.world.log) a kept.world.filling s.homes
-  still s kept own a is none zero = let w = kept.world in four_begun setting docs p (state_of (limits p) w.log) (shown_in w.log) (w.tasks 0) a w.filling s.homes (ap reached is ∙ none) zero kept.four
+  still : (s : State (Cell D U) (Known W U X L)) (kept : Kept setting docs deeds p s) (own a : Task) → kept.world.tasks 0 ≡ own → reached own ≡ None → (laid a).1 ≡ 0
+      → Four setting docs deeds p (state_of (limits p) kept.world.log) (told_in kept.world.log) a kept.world.filling s.homes
+  still s kept own a is none zero = let w = kept.world in four_begun setting docs deeds p (state_of (limits p) w.log) (told_in w.log) (w.tasks 0) a w.filling s.homes (ap reached is ∙ none) zero kept.four
 
   -- a word that is read stays
-  pub read_same : (s : State (Cell D U) (Known W U X L)) (kept : Kept setting docs p s) (i : ℕ) (a : Task) → Three p (state_of (limits p) kept.world.log) (released kept.world.log) a (put 0 a kept.world.tasks) s.words
+  pub read_same : (s : State (Cell D U) (Known W U X L)) (kept : Kept setting docs deeds p s) (i : ℕ) (a : Task) → Three p (state_of (limits p) kept.world.log) (released kept.world.log) a (put 0 a kept.world.tasks) s.words
       → Three p (state_of (limits p) kept.world.log) (released kept.world.log) a (put 0 a kept.world.tasks) (set s.words i (slice_index s.words i))
   read_same s kept i a three = subst (λ (ws : List ℕ). Three p (state_of (limits p) kept.world.log) (released kept.world.log) a (put 0 a kept.world.tasks) ws) (sym (set_same s.words i)) three
 
   pub scans : (slots id : ℕ) (me : Me (Cell D U) (Known W U X L)) (i : ℕ) → i ≡ 24 → me.0.registrar ≡ true → me.0.task ≡ Idle → length (state_of (limits p) me.0.seen).warming < p.max_warming
-      → Allows (Kept setting docs p) slots id me i (λ n. n) (Scanned (step slots i 0 0 maybe.none) me)
+      → Allows (Kept setting docs deeds p) slots id me i (λ n. n) (Scanned (step slots i 0 0 maybe.none) me)
   scans slots id me i at_word role idle room s kept deep at small =
       let w = kept.world in
       let k = me.0 in
@@ -83,7 +83,7 @@ module _ {D W U X L : Type 0} (setting : D → W) (docs : D → X) (p : Plan W) 
       let quiet = quiet_since l w.log k.seen r.seen in
       let free = some_free p w.log w.tasks s.words w.next kept.legal kept.two kept.three (ap claimed own) (ap unsettled own) (subst IsNoDuty (sym own) idle_no_duty) kept.one.few (λ c past. (kept.one.undealt c past).1)
       (subst (λ (gs : List ℕ). length gs < p.max_warming) (sym quiet.warming) room) in
-      let goes : (slot : ℕ) → IsFree l (state_of l w.log) (w.tasks 0) slot → Kept setting docs p (stepped s i n id me.1 (record (looked k w.log w.pending) { hand = None; task = Found slot; fresh = k.fresh }) keeps) × HasTurned (Found slot) k.fresh me (record (looked k w.log w.pending) { hand = None; task = Found slot; fresh = k.fresh }, me.1) =
+      let goes : (slot : ℕ) → IsFree l (state_of l w.log) (w.tasks 0) slot → Kept setting docs deeds p (stepped s i n id me.1 (record (looked k w.log w.pending) { hand = None; task = Found slot; fresh = k.fresh }) keeps) × HasTurned (Found slot) k.fresh me (record (looked k w.log w.pending) { hand = None; task = Found slot; fresh = k.fresh }, me.1) =
       λ slot is. begins s kept id i n me (Found slot) keeps at role (omega arith) (omega arith)
       (read_same s kept i (Found slot) (three_found p (state_of l w.log) (released w.log) w.tasks s.words kept.three slot (ap claimed own) (ap unsettled own) (subst IsNoDuty (sym own) idle_no_duty) is)) (still s kept Idle (Found slot) own refl refl) in
       dite (ℕ_discrete n 0)
@@ -124,7 +124,7 @@ module _ {D W U X L : Type 0} (setting : D → W) (docs : D → X) (p : Plan W) 
       at_least : (n : ℕ) → (n < 64 → 64 ≤ n) → 64 ≤ n
       at_least n by = ⊎_elim by (λ high. high) (cases_lt n 64)
 
-  pub scans_on : (slots id : ℕ) (me : Me (Cell D U) (Known W U X L)) (i b : ℕ) → i ≡ 32 → me.0.registrar ≡ true → me.0.task ≡ Found b → 64 ≤ b → Allows (Kept setting docs p) slots id me i (λ n. n) (ScannedOn (step slots i 0 0 maybe.none) me)
+  pub scans_on : (slots id : ℕ) (me : Me (Cell D U) (Known W U X L)) (i b : ℕ) → i ≡ 32 → me.0.registrar ≡ true → me.0.task ≡ Found b → 64 ≤ b → Allows (Kept setting docs deeds p) slots id me i (λ n. n) (ScannedOn (step slots i 0 0 maybe.none) me)
   scans_on slots id me i b at_word role found high s kept deep at small =
       let w = kept.world in
       let k = me.0 in
@@ -155,7 +155,7 @@ module _ {D W U X L : Type 0} (setting : D → W) (docs : D → X) (p : Plan W) 
 
   pub takes : (slots id : ℕ) (me : Me (Cell D U) (Known W U X L)) (i q slot : ℕ) (f : ℕ → ℕ) → i ≡ mask_word slot → slot < 128 → me.0.registrar ≡ true → me.0.task ≡ Found slot
       → ((words : List ℕ) (long : length words ≡ word_count) (low : slot < 128) (n : ℕ) → f n ≡ without words slot long low n)
-      → Allows (Kept setting docs p) slots id me i f (Took (step slots i q 0 maybe.none) me)
+      → Allows (Kept setting docs deeds p) slots id me i f (Took (step slots i q 0 maybe.none) me)
   takes slots id me i q slot f at_word low role found is s kept deep at small =
       let w = kept.world in
       let k = me.0 in
@@ -178,7 +178,7 @@ module _ {D W U X L : Type 0} (setting : D → W) (docs : D → X) (p : Plan W) 
       claimed_of (Found b) = Claimed b
       claimed_of _ = Idle
 
-  pub wipes : (slots id : ℕ) (me : Me (Cell D U) (Known W U X L)) (i slot : ℕ) → i ≡ slot_word slot → me.0.registrar ≡ true → me.0.task ≡ Claimed slot → Allows (Kept setting docs p) slots id me i (λ _. 0) (λ _. Wiped (step slots i 0 0 maybe.none) me 0)
+  pub wipes : (slots id : ℕ) (me : Me (Cell D U) (Known W U X L)) (i slot : ℕ) → i ≡ slot_word slot → me.0.registrar ≡ true → me.0.task ≡ Claimed slot → Allows (Kept setting docs deeds p) slots id me i (λ _. 0) (λ _. Wiped (step slots i 0 0 maybe.none) me 0)
   wipes slots id me i slot at_word role claim s kept deep at small =
       let w = kept.world in
       let k = me.0 in

@@ -30,8 +30,8 @@ module _ {W U X L : Type 0} where
     back = all_map (IsBack w j) (IsBack (dealt w n) j) (λ o g. record { here = still w n j o.caller g.here g.dealt; dealt = (let d = g.dealt in omega arith); mine = g.mine; none = g.none }) k.back f.back;
   }
 
-  pub deals : {D : Type 0} (setting : D → W) (docs : D → X) (p : Plan W) (id : ℕ) (k : Known W U X L) → k.registrar ≡ true → k.next ≤ p.callers → Splits (Kept setting docs p) id k (keeps_others k) (dealt_out k)
-  deals setting docs p id k role left_over s kept at =
+  pub deals : {D : Type 0} (setting : D → W) (docs : D → X) (deeds : D → List L) (p : Plan W) (id : ℕ) (k : Known W U X L) → k.registrar ≡ true → k.next ≤ p.callers → Splits (Kept setting docs deeds p) id k (keeps_others k) (dealt_out k)
+  deals setting docs deeds p id k role left_over s kept at =
       let w = kept.world in
       let f = kept.one.fits id k at in
       let r = f.registrar role in

@@ -35,7 +35,7 @@ use Rattle.searcher_table.proofs.Beside.{Apart, few_slots, not_counted, own_last
 use Rattle.searcher_table.proofs.Current.{tells}
 use Rattle.searcher_table.proofs.Slotted.{SlotsSame, bit_same, idle_duty, map_duty, begun_by, duty_still, was_duty, three_after}
 use Rattle.searcher_table.proofs.Slotting.{IsNoDuty}
-use Rattle.searcher_table.specs.Doors.{reached, shown_in, Four}
+use Rattle.searcher_table.specs.Doors.{reached, told_in, Four}
 use Rattle.searcher_table.proofs.Doors.{claims_none, fills_none, four_entry}
 use Rattle.searcher_table.proofs.Turning.{turns}
 
@@ -155,9 +155,9 @@ module _ {U X L : Type 0} where
     opened = same f.slot ∙ z.opened;
   }
 
-module _ {D W U X L : Type 0} (setting : D → W) (docs : D → X) (p : Plan W) where
+module _ {D W U X L : Type 0} (setting : D → W) (docs : D → X) (deeds : D → List L) (p : Plan W) where
   pub publishes : (slots id : ℕ) (me : Me (Cell D U) (Known W U X L)) (i x : ℕ) (f : Fresh) → i ≡ current_word → x ≡ packed f.generation f.slot 0 → me.0.registrar ≡ true → me.0.task ≡ Idle → me.0.fresh ≡ Some f
-      → IfSome (state_of (limits p) me.0.seen).current (λ h. h ≤ f.generation) → Allows (Kept setting docs p) slots id me i (λ _. x) (Published (step slots i x 0 maybe.none) me)
+      → IfSome (state_of (limits p) me.0.seen).current (λ h. h ≤ f.generation) → Allows (Kept setting docs deeds p) slots id me i (λ _. x) (Published (step slots i x 0 maybe.none) me)
   publishes slots id me i x f at_word value role idle fresh least s kept deep at small =
       let w = kept.world in
       let k = me.0 in
@@ -195,8 +195,8 @@ module _ {D W U X L : Type 0} (setting : D → W) (docs : D → X) (p : Plan W) 
       three_after p w.log e a (put 0 a w.tasks) news (λ m. not_counted (releases m) w.log e refl)
       (three_ended p v (after v e) (released w.log) w.tasks s.words news kept.three (few_slots p kept.two.sizes) (λ j low _. get_or-set_other s.words current_word j x 0 (λ z. absurd (omega arith))) (λ _. refl) (λ _. refl) (λ _. refl)
       a (sym r.task ∙ idle) left.1 left.2 mine (λ m. finish_settled v g h.warming.warming a m left.0)) in
-      let four : Four setting docs p (state_of l log) (shown_in log) a w.filling s.homes =
-      four_entry setting docs p w.log e (w.tasks 0) a w.filling s.homes (λ _. refl) (λ _. refl) (λ _ _. refl) (fills_none (w.tasks 0) a (ap reached (sym r.task ∙ idle)) (claims_none a left.1).1) kept.four in
+      let four : Four setting docs deeds p (state_of l log) (told_in log) a w.filling s.homes =
+      four_entry setting docs deeds p w.log e (w.tasks 0) a w.filling s.homes (λ _. refl) (λ _. refl) (λ _ _. refl) (λ _ _ _. refl) (fills_none (w.tasks 0) a (ap reached (sym r.task ∙ idle)) (claims_none a left.1).1) kept.four in
       let none : v.acquired g ≡ 0 = unacquired l w.log g kept.legal h.warming.warming in
       let two : Two p log news = record {
         sizes = kept.two.sizes;
@@ -211,10 +211,10 @@ module _ {D W U X L : Type 0} (setting : D → W) (docs : D → X) (p : Plan W) 
         within = λ c. let b = own_last c is_acquire w.log e in let d = not_own c is_acquire e refl in let y = kept.two.within c in omega arith;
       } in
       let new : Me (Cell D U) (Known W U X L) = (record (looked k log w.pending) { hand = None; task = a; fresh = None }, me.1) in
-      let goes : Kept setting docs p (stepped s current_word x id me.1 new.0 keeps) =
-      turns setting docs p s kept id current_word x me log (e ∷ []) a None w.fresh_at keeps at (inr role) (omega arith) refl (refl, tt) (inr role) legal two
+      let goes : Kept setting docs deeds p (stepped s current_word x id me.1 new.0 keeps) =
+      turns setting docs deeds p s kept id current_word x me log (e ∷ []) a None w.fresh_at keeps at (inr role) (omega arith) refl (refl, tt) (inr role) legal two
       (subst (λ (m : ℕ). Three p (state_of l log) (released log) (put m a w.tasks 0) (put m a w.tasks) news) (sym r.nobody) three)
-      (subst (λ (m : ℕ). Four setting docs p (state_of l log) (shown_in log) (put m a w.tasks 0) w.filling s.homes) (sym r.nobody) four)
+      (subst (λ (m : ℕ). Four setting docs deeds p (state_of l log) (told_in log) (put m a w.tasks 0) w.filling s.homes) (sym r.nobody) four)
       (λ j y away (z : IsFresh w j l y). (
         z.here,
         subst (λ (m : State). IsWarming m y) (sym next)
@@ -224,7 +224,7 @@ module _ {D W U X L : Type 0} (setting : D → W) (docs : D → X) (p : Plan W) 
         (record (looked k log w.pending) { hand = None; task = left_by (slice_index s.words i); fresh = None }),
         keeps,
         tt,
-        subst (λ (m : ℕ). Kept setting docs p (stepped s m x id me.1 (record (looked k log w.pending) { hand = None; task = left_by (slice_index s.words m); fresh = None }) keeps)) (sym at_word) goes,
+        subst (λ (m : ℕ). Kept setting docs deeds p (stepped s m x id me.1 (record (looked k log w.pending) { hand = None; task = left_by (slice_index s.words m); fresh = None }) keeps)) (sym at_word) goes,
         λ y has. subst (λ (z : ℕ × Fresh). HasPublished z.1 (slice_index s.words z.0) me (record (looked k log w.pending) { hand = None; task = left_by (slice_index s.words z.0); fresh = None }, me.1)) (λ j. (sym at_word j, same_Some f y (sym fresh ∙ has) j)) record {
           executed = record {
             log = w.log;
@@ -238,7 +238,7 @@ module _ {D W U X L : Type 0} (setting : D → W) (docs : D → X) (p : Plan W) 
       )
 
   pub supersedes : (slots id : ℕ) (me : Me (Cell D U) (Known W U X L)) (i by : ℕ) (f : Fresh) → i ≡ 16 → me.0.registrar ≡ true → me.0.task ≡ Idle → me.0.fresh ≡ Some f → me.0.plan ≡ Some p
-      → (state_of (limits p) me.0.seen).current ≡ Some by → f.generation < by → Allows (Kept setting docs p) slots id me i (λ _. 0) (λ _. Superseding (step slots i 0 0 maybe.none) me 0)
+      → (state_of (limits p) me.0.seen).current ≡ Some by → f.generation < by → Allows (Kept setting docs deeds p) slots id me i (λ _. 0) (λ _. Superseding (step slots i 0 0 maybe.none) me 0)
   supersedes slots id me i by f at_word role idle fresh plan current later s kept deep at small =
       let w = kept.world in
       let k = me.0 in
@@ -270,17 +270,17 @@ module _ {D W U X L : Type 0} (setting : D → W) (docs : D → X) (p : Plan W) 
       three_after p w.log e a (put 0 a w.tasks) news (λ m. not_counted (releases m) w.log e refl)
       (three_ended p v (after v e) (released w.log) w.tasks s.words news kept.three (few_slots p kept.two.sizes) (λ j low _. get_or-set_other s.words i j 0 0 (λ z. absurd (omega arith))) (λ _. refl) (λ _. refl) (λ _. refl)
       a (sym r.task ∙ idle) refl (λ b m z. let q : Unsettled f.slot g 0 ≡ Duty b m = z in absurd (cc)) mine (λ m. superseded_settled v g h.warming.warming f.slot m other)) in
-      let four : Four setting docs p (state_of l log) (shown_in log) a w.filling s.homes =
-      four_entry setting docs p w.log e (w.tasks 0) a w.filling s.homes (λ _. refl) (λ _. refl) (λ _ _. refl) (fills_none (w.tasks 0) a (ap reached (sym r.task ∙ idle)) refl) kept.four in
+      let four : Four setting docs deeds p (state_of l log) (told_in log) a w.filling s.homes =
+      four_entry setting docs deeds p w.log e (w.tasks 0) a w.filling s.homes (λ _. refl) (λ _. refl) (λ _ _. refl) (λ _ _ _. refl) (fills_none (w.tasks 0) a (ap reached (sym r.task ∙ idle)) refl) kept.four in
       let apart : Apart l w.log e = record { current = refl; acquired = λ _. refl; stays = λ _ _ _ z. z; early = refl; acquire = refl; released = λ _. refl } in
       let new : Me (Cell D U) (Known W U X L) = (record (looked k log w.pending) { hand = None; task = a; fresh = None }, me.1) in (
         new.0,
         keeps,
         tt,
-        turns setting docs p s kept id i 0 me log (e ∷ []) a None w.fresh_at keeps at (inr role) (omega arith) refl (refl, tt) (inr role) legal
+        turns setting docs deeds p s kept id i 0 me log (e ∷ []) a None w.fresh_at keeps at (inr role) (omega arith) refl (refl, tt) (inr role) legal
             (two_entry p w.log e s.words news (get_or-set_other s.words i current_word 0 0 (λ z. absurd (omega arith))) apart tt kept.two)
             (subst (λ (m : ℕ). Three p (state_of l log) (released log) (put m a w.tasks 0) (put m a w.tasks) news) (sym r.nobody) three)
-            (subst (λ (m : ℕ). Four setting docs p (state_of l log) (shown_in log) (put m a w.tasks 0) w.filling s.homes) (sym r.nobody) four)
+            (subst (λ (m : ℕ). Four setting docs deeds p (state_of l log) (told_in log) (put m a w.tasks 0) w.filling s.homes) (sym r.nobody) four)
             (λ j y away (z : IsFresh w j l y). (
               z.here,
               subst (λ (m : State). IsWarming m y) (sym next)

@@ -28,7 +28,7 @@ use Rattle.searcher_table.specs.declared.board.Known.{Known}
 use Rattle.searcher_table.specs.declared.board.Task.{Task}
 use Rattle.searcher_table.specs.declared.board.Fresh.{Fresh}
 use Rattle.searcher_table.specs.Tasks.{IsWarming, Three}
-use Rattle.searcher_table.specs.Doors.{shown_after, shown_in, Four}
+use Rattle.searcher_table.specs.Doors.{shown_after, left_after, told_in, Four}
 use Rattle.searcher_table.specs.Words.{current_word, call_word, code_of, code, limits}
 use Rattle.searcher_table.specs.Views.{Answers, IsStill, WasExecuted, GoesOn, HasNoPlaceSince}
 use Rattle.searcher_table.specs.Rule.{World, IsPass, IsHand, IsFresh, IsRegistrar, IsBack, released, Kept}
@@ -101,6 +101,7 @@ pub record IsAnswer {W U X L : Type 0} (p : Plan W) (h : Hand U) (e : Entry U X 
   pub placed : has_place e ≡ true
   pub same : (s : MachineState) → after s e ≡ s
   pub shows : (f : ℕ → Option X) (g : ℕ) → shown_after f e g ≡ f g
+  pub left : (f : ℕ → ℕ → List L) (g c : ℕ) → left_after f e g c ≡ f g c
   pub apart : (l : Limits) (log : List (Entry U X L)) → Apart l log e
   pub lasting : (s t : MachineState) → HasSameOpenings s t → IsAllowed (limits p) s e → IsAllowed (limits p) t e
 
@@ -111,6 +112,7 @@ module _ {W U X L : Type 0} (p : Plan W) (h : Hand U) where
     placed = refl;
     same = λ _. refl;
     shows = λ _ _. refl;
+    left = λ _ _ _. refl;
     apart = λ l log. record { current = refl; acquired = λ _. refl; stays = λ _ _ _ is. is; early = refl; acquire = refl; released = λ _. refl };
     lasting = λ s t o a. record { full = ap length o.warming ∙ a.full; told = a.told ∙ sym o.warming };
   }
@@ -121,6 +123,7 @@ module _ {W U X L : Type 0} (p : Plan W) (h : Hand U) where
     placed = refl;
     same = λ _. refl;
     shows = λ _ _. refl;
+    left = λ _ _ _. refl;
     apart = λ l log. record { current = refl; acquired = λ _. refl; stays = λ _ _ _ is. is; early = refl; acquire = refl; released = λ _. refl };
     lasting = λ s t o a. record { room = subst (λ (gs : List ℕ). length gs < p.max_warming) (sym o.warming) a.room; last = o.last ∙ a.last };
   }
@@ -135,26 +138,27 @@ is_answer p seen h ToUpdate is = record {
   placed = refl;
   same = λ _. refl;
   shows = λ _ _. refl;
+  left = λ _ _ _. refl;
   apart = λ l log. record { current = refl; acquired = λ _. refl; stays = λ _ _ _ is. is; early = refl; acquire = refl; released = λ _. refl };
   lasting = λ s t o a. tt;
 }
 is_answer p seen h ToOpen is = let gs : List ℕ = (state_of (limits p) seen).warming in refusal p h gs is (length gs == p.max_warming)
 
-module _ {D W U X L : Type 0} (setting : D → W) (docs : D → X) (p : Plan W) where
+module _ {D W U X L : Type 0} (setting : D → W) (docs : D → X) (deeds : D → List L) (p : Plan W) where
   -- what a call's step leaves of the slots, by its entry, what the registrar has begun then, and which warming generation it can publish
-  pub record Places (s : State (Cell D U) (Known W U X L)) (kept : Kept setting docs p s) (id i : ℕ) (k : Known W U X L) (e : Entry U X L) (task : Task) (fresh : Option Fresh) : Type 0 where
+  pub record Places (s : State (Cell D U) (Known W U X L)) (kept : Kept setting docs deeds p s) (id i : ℕ) (k : Known W U X L) (e : Entry U X L) (task : Task) (fresh : Option Fresh) : Type 0 where
     pub fresh_at : ℕ → ℕ
     pub three : Three p (state_of (limits p) (kept.world.log ++ e ∷ [])) (released (kept.world.log ++ e ∷ [])) (put 0 task kept.world.tasks 0) (put 0 task kept.world.tasks) (set s.words i 0)
-    pub four : Four setting docs p (state_of (limits p) (kept.world.log ++ e ∷ [])) (shown_in (kept.world.log ++ e ∷ [])) (put 0 task kept.world.tasks 0) kept.world.filling s.homes
+    pub four : Four setting docs deeds p (state_of (limits p) (kept.world.log ++ e ∷ [])) (told_in (kept.world.log ++ e ∷ [])) (put 0 task kept.world.tasks 0) kept.world.filling s.homes
     pub others : (j : ℕ) (f : Fresh) → j ≢ id → IsFresh kept.world j (limits p) f → Holds p fresh_at (kept.world.log ++ e ∷ []) j f
     pub own : (f : Fresh) → fresh ≡ Some f → Holds p fresh_at (kept.world.log ++ e ∷ []) id f
 
   pub executes : (slots id : ℕ) (me : Me (Cell D U) (Known W U X L)) (i : ℕ) (f : ℕ → ℕ) (h : Hand U) (e : Entry U X L) (task : Task) (fresh : Option Fresh) → i ≡ call_word h.caller → 1 ≤ h.caller → h.caller ≤ 64 → f (code_of h.asked.call) ≡ 0 → me.0.hand ≡ Some h → me.0.registrar ≡ true
       → Answers h.caller h.asked e → MayCome p me.0 e
       → ((log : List (Entry U X L)) → Legal (limits p) log → AllByRecursion NamesCaller log → IsAllowed (limits p) (state_of (limits p) log) e → Apart (limits p) log e)
-      → ((s : State (Cell D U) (Known W U X L)) (kept : Kept setting docs p s) → get_elem? s.views id ≡ some me.0 → IsAllowed (limits p) (state_of (limits p) kept.world.log) e → Places s kept id i me.0 e task fresh)
+      → ((s : State (Cell D U) (Known W U X L)) (kept : Kept setting docs deeds p s) → get_elem? s.views id ≡ some me.0 → IsAllowed (limits p) (state_of (limits p) kept.world.log) e → Places s kept id i me.0 e task fresh)
       → (then : ℕ → Me (Cell D U) (Known W U X L) → Type 0) → ((n : ℕ) (new : Me (Cell D U) (Known W U X L)) → HasExecuted e task fresh me new → then n new)
-      → Allows (Kept setting docs p) slots id me i f then
+      → Allows (Kept setting docs deeds p) slots id me i f then
   executes slots id me i f h e task fresh at_word low few zero has role answers may apart places then tells s kept deep at small =
       let w = kept.world in
       let k = me.0 in
@@ -173,7 +177,7 @@ module _ {D W U X L : Type 0} (setting : D → W) (docs : D → X) (p : Plan W) 
         new.0,
         keeps,
         tt,
-        subst (λ (x : ℕ). Kept setting docs p (stepped s i x id me.1 new.0 keeps)) (sym found) record {
+        subst (λ (x : ℕ). Kept setting docs deeds p (stepped s i x id me.1 new.0 keeps)) (sym found) record {
           words = length-set s.words i 0 ∙ kept.words;
           world = moved w log now w.hand_at tasks z.fresh_at;
           legal = legal;
@@ -206,7 +210,7 @@ module _ {D W U X L : Type 0} (setting : D → W) (docs : D → X) (p : Plan W) 
 
   -- a call that opens nothing has its entry, which may come next after what the registrar has seen
   pub answers : (slots id : ℕ) (me : Me (Cell D U) (Known W U X L)) (i : ℕ) (h : Hand U) → i ≡ call_word h.caller → 1 ≤ h.caller → h.caller ≤ 64 → me.0.hand ≡ Some h → me.0.registrar ≡ true → me.0.plan ≡ Some p
-      → IsAllowed (limits p) (state_of (limits p) me.0.seen) (answer_of h.asked.call p me.0.seen h) → Allows (Kept setting docs p) slots id me i (λ _. 0) (λ _. Executed (step slots i 0 0 maybe.none) me 0)
+      → IsAllowed (limits p) (state_of (limits p) me.0.seen) (answer_of h.asked.call p me.0.seen h) → Allows (Kept setting docs deeds p) slots id me i (λ _. 0) (λ _. Executed (step slots i 0 0 maybe.none) me 0)
   answers slots id me i h at_word low few has role told may =
       let e : Entry U X L = answer_of h.asked.call p me.0.seen h in
       let l = limits p in
@@ -230,7 +234,7 @@ module _ {D W U X L : Type 0} (setting : D → W) (docs : D → X) (p : Plan W) 
             let y : Three p (state_of l log) (released log) (w.tasks 0) w.tasks (set s.words i 0) =
             subst (λ (z : MachineState × (ℕ → ℕ)). Three p z.0 z.1 (w.tasks 0) w.tasks (set s.words i 0)) (λ j. (sym state j, λ g. sym (not_counted (releases g) w.log e ((a.apart l w.log).released g)) j)) words in
             subst (λ (z : ℕ → Task). Three p (state_of l log) (released log) (z 0) z (set s.words i 0)) (λ j c. sym (still c) j) y);
-        four = four_entry setting docs p w.log e (w.tasks 0) (put 0 me.0.task w.tasks 0) w.filling s.homes (λ b. ap (λ (z : MachineState). z.slots b) (a.same (state_of l w.log))) (λ c. ap (λ (z : MachineState). z.pins c) (a.same (state_of l w.log))) a.shows
+        four = four_entry setting docs deeds p w.log e (w.tasks 0) (put 0 me.0.task w.tasks 0) w.filling s.homes (λ b. ap (λ (z : MachineState). z.slots b) (a.same (state_of l w.log))) (λ c. ap (λ (z : MachineState). z.pins c) (a.same (state_of l w.log))) a.shows a.left
             (fills_on (w.tasks 0) (put 0 me.0.task w.tasks 0) (still 0)) kept.four;
         others = λ j g away i. (i.here, warm g i.warming);
         own = λ g is. let i = f.fresh g is in (i.here, warm g i.warming);

@@ -5,7 +5,7 @@ use mathlib.Core.Option as maybe
 use lib.ListN.{get_elem?}
 use Rattle.std.specs.Prelude.{slice_index}
 use Rattle.std.proofs.lemmas.Option.{none-some}
-use Rattle.atomic_table.specs.Table.{State, Me, Allows, stepped, takes, gives, step, rest, homes_after}
+use Rattle.atomic_table.specs.Table.{State, Me, Allows, takes, gives, step, rest, homes_after}
 use Rattle.registry_machine.specs.Machine.{State as MachineState}
 use Rattle.registry_machine.specs.Legal.{state_of}
 use Rattle.searcher_table.specs.declared.board.Cell.{Cell}
@@ -16,7 +16,7 @@ use Rattle.searcher_table.specs.declared.board.Task.{Task}
 use Rattle.searcher_table.specs.declared.board.Task.TheVariants.{Filled, Filling, Duty}
 use Rattle.searcher_table.specs.Words.{limits}
 use Rattle.searcher_table.specs.Tasks.{claimed, unsettled, IsClear, IsTask, Three}
-use Rattle.searcher_table.specs.Doors.{cell_of, laid, shown_in, Four}
+use Rattle.searcher_table.specs.Doors.{cell_of, laid, told_in, Four}
 use Rattle.searcher_table.specs.Rule.{World, IsRegistrar, IsBack, Fits, released, Kept}
 use Rattle.searcher_table.specs.Steps.{looked, HasTurned, HasReached, Reached, Laid, filling_with}
 use Rattle.searcher_table.specs.Claims.{IsOpener, HasBegun, HasLaid}
@@ -53,10 +53,10 @@ module _ {W U X L : Type 0} where
     back = all_map (IsBack w j) (IsBack (record w { filling = f }) j) (λ o i. record { here = i.here; dealt = i.dealt; mine = i.mine; none = i.none }) k.back g.back;
   }
 
-module _ {D W U X L : Type 0} (setting : D → W) (docs : D → X) (p : Plan W) where
+module _ {D W U X L : Type 0} (setting : D → W) (docs : D → X) (deeds : D → List L) (p : Plan W) where
   -- the registrar says what it fills with
-  refilled : (s : State (Cell D U) (Known W U X L)) (kept : Kept setting docs p s) (id : ℕ) (k : Known W U X L) (f : Option X) → get_elem? s.views id ≡ some k → k.registrar ≡ true
-      → Four setting docs p (state_of (limits p) kept.world.log) (shown_in kept.world.log) (kept.world.tasks 0) f s.homes → Kept setting docs p (record { words = s.words; homes = s.homes; views = set s.views id (record k { filling = f }) })
+  refilled : (s : State (Cell D U) (Known W U X L)) (kept : Kept setting docs deeds p s) (id : ℕ) (k : Known W U X L) (f : Option X) → get_elem? s.views id ≡ some k → k.registrar ≡ true
+      → Four setting docs deeds p (state_of (limits p) kept.world.log) (told_in kept.world.log) (kept.world.tasks 0) f s.homes → Kept setting docs deeds p (record { words = s.words; homes = s.homes; views = set s.views id (record k { filling = f }) })
   refilled s kept id k f at role four =
       let w = kept.world in
       let v : World U X L = record w { filling = f } in
@@ -81,25 +81,25 @@ module _ {D W U X L : Type 0} (setting : D → W) (docs : D → X) (p : Plan W) 
 
   -- the next caller's cell is taken out
   pub reaches : (slots id : ℕ) (me : Me (Cell D U) (Known W U X L)) (i slot n : ℕ) → i ≡ 16 → me.0.registrar ≡ true → me.0.task ≡ Filled slot n → n < p.callers
-      → Allows (Kept setting docs p) slots id me i (λ m. m) (Reached (step slots i 0 0 maybe.none) me)
+      → Allows (Kept setting docs deeds p) slots id me i (λ m. m) (Reached (step slots i 0 0 maybe.none) me)
   reaches slots id me i slot n at_word role task more s kept deep at small =
       let w = kept.world in
       let k = me.0 in
       let l = limits p in
       let v : MachineState = state_of l w.log in
-      let own = own_is setting docs p s kept id k (Filled slot n) at role task in
+      let own = own_is setting docs deeds p s kept id k (Filled slot n) at role task in
       let mine : IsTask p v (w.tasks 0) (released w.log) s.words 0 (Filled slot n) = subst (λ (a : Task). IsTask p v (w.tasks 0) (released w.log) s.words 0 a) own (kept.three.begun 0) in
       let clear : IsClear l v s.words slot = mine.1 in
       let few = kept.two.sizes.callers in
-      let four : Four setting docs p v (shown_in w.log) (Filled slot n) w.filling s.homes = subst (λ (a : Task). Four setting docs p v (shown_in w.log) a w.filling s.homes) own kept.four in
+      let four : Four setting docs deeds p v (told_in w.log) (Filled slot n) w.filling s.homes = subst (λ (a : Task). Four setting docs deeds p v (told_in w.log) a w.filling s.homes) own kept.four in
       let cell : ℕ = cell_of slot (n + 1) in
       let x = four.spare slot (n + 1) clear.below clear.none (omega arith) (omega arith) (λ z. none-some cell z) in
       let three : Three p v (released w.log) (Filling slot n) (put 0 (Filling slot n) w.tasks) s.words =
       three_filled p v (released w.log) w.tasks s.words kept.three slot (Filling slot n) (ap claimed own) refl (ap unsettled own) refl
       (λ b g e. let q : Filled slot n ≡ Duty b g = sym own ∙ e in absurd (cc)) (λ b g e. let q : Filling slot n ≡ Duty b g = e in absurd (cc)) (refl, clear) in
       let new : Me (Cell D U) (Known W U X L) = (record (looked k w.log w.pending) { hand = None; task = Filling slot n; fresh = k.fresh }, (cell, x.0) ∷ me.1) in
-      let g = begins setting docs p s kept id i (slice_index s.words i) me (Filling slot n) (takes cell x.0) at role (omega arith) (λ z. absurd (omega arith))
-      (read_same setting docs p s kept i (Filling slot n) three) (four_reached setting docs p v (shown_in w.log) slot n w.filling s.homes few clear.none more four) in (
+      let g = begins setting docs deeds p s kept id i (slice_index s.words i) me (Filling slot n) (takes cell x.0) at role (omega arith) (λ z. absurd (omega arith))
+      (read_same setting docs deeds p s kept i (Filling slot n) three) (four_reached setting docs deeds p v (told_in w.log) slot n w.filling s.homes few clear.none more four) in (
         new.0,
         takes cell x.0,
         x.1,
@@ -109,38 +109,38 @@ module _ {D W U X L : Type 0} (setting : D → W) (docs : D → X) (p : Plan W) 
 
   -- and is back, with a door
   pub lays : (slots id : ℕ) (me : Me (Cell D U) (Known W U X L)) (i slot n : ℕ) (d : D) → i ≡ 16 → me.0.registrar ≡ true → me.0.task ≡ Filling slot n → n < p.callers → me.1 ≡ (cell_of slot (n + 1), Full d) ∷ []
-      → setting d ≡ p.setting.value → (n ≢ 0 → me.0.filling ≡ Some (docs d)) → Allows (Kept setting docs p) slots id me i (λ m. m) (Laid docs (step slots i 0 0 maybe.none) me)
+      → setting d ≡ p.setting.value → deeds d ≡ [] → (n ≢ 0 → me.0.filling ≡ Some (docs d)) → Allows (Kept setting docs deeds p) slots id me i (λ m. m) (Laid docs (step slots i 0 0 maybe.none) me)
   unfolding refilled
-  lays slots id me i slot n d at_word role task more out is same s kept deep at small =
+  lays slots id me i slot n d at_word role task more out is unused same s kept deep at small =
       let w = kept.world in
       let k = me.0 in
       let l = limits p in
       let v : MachineState = state_of l w.log in
       let all = kept.one.fits id k at in
       let r = all.registrar role in
-      let own = own_is setting docs p s kept id k (Filling slot n) at role task in
+      let own = own_is setting docs deeds p s kept id k (Filling slot n) at role task in
       let mine : IsTask p v (w.tasks 0) (released w.log) s.words 0 (Filling slot n) = subst (λ (a : Task). IsTask p v (w.tasks 0) (released w.log) s.words 0 a) own (kept.three.begun 0) in
       let clear : IsClear l v s.words slot = mine.1 in
       let few = kept.two.sizes.callers in
       let f : Option X = Some (docs d) in
       let a : Task = Filled slot (n + 1) in
-      let before : Four setting docs p v (shown_in w.log) (Filling slot n) w.filling s.homes = subst (λ (b : Task). Four setting docs p v (shown_in w.log) b w.filling s.homes) own kept.four in
-      let told : Four setting docs p v (shown_in w.log) (Filling slot n) f s.homes = four_refilled setting docs p v (shown_in w.log) slot n w.filling f s.homes (λ z. sym r.filling ∙ same z) before in
+      let before : Four setting docs deeds p v (told_in w.log) (Filling slot n) w.filling s.homes = subst (λ (b : Task). Four setting docs deeds p v (told_in w.log) b w.filling s.homes) own kept.four in
+      let told : Four setting docs deeds p v (told_in w.log) (Filling slot n) f s.homes = four_refilled setting docs deeds p v (told_in w.log) slot n w.filling f s.homes (λ z. sym r.filling ∙ same z) before in
       let m : Known W U X L = record k { filling = f } in
       let t : State (Cell D U) (Known W U X L) = record { words = s.words; homes = s.homes; views = set s.views id m } in
-      let known : Kept setting docs p t = refilled s kept id k f at role (subst (λ (b : Task). Four setting docs p v (shown_in w.log) b f s.homes) (sym own) told) in
+      let known : Kept setting docs deeds p t = refilled s kept id k f at role (subst (λ (b : Task). Four setting docs deeds p v (told_in w.log) b f s.homes) (sym own) told) in
       let three : Three p v (released w.log) a (put 0 a w.tasks) s.words =
       three_filled p v (released w.log) w.tasks s.words kept.three slot a (ap claimed own) refl (ap unsettled own) refl
       (λ b g e. let q : Filling slot n ≡ Duty b g = sym own ∙ e in absurd (cc)) (λ b g e. let q : Filled slot (n + 1) ≡ Duty b g = e in absurd (cc)) (refl, clear) in
-      let four : Four setting docs p v (shown_in w.log) a f (homes_after s.homes me.1 gives) =
-      subst (λ (hs : List (ℕ × Cell D U)). Four setting docs p v (shown_in w.log) a f (homes_after s.homes hs gives)) (sym out) (four_laid setting docs p v (shown_in w.log) slot n d s.homes few clear.below clear.none more is told) in
+      let four : Four setting docs deeds p v (told_in w.log) a f (homes_after s.homes me.1 gives) =
+      subst (λ (hs : List (ℕ × Cell D U)). Four setting docs deeds p v (told_in w.log) a f (homes_after s.homes hs gives)) (sym out) (four_laid setting docs deeds p v (told_in w.log) slot n d s.homes few clear.below clear.none more is unused told) in
       let new : Me (Cell D U) (Known W U X L) = (record (looked m w.log w.pending) { hand = None; task = a; fresh = k.fresh }, rest me.1) in
-      let g = begins setting docs p t known id i (slice_index s.words i) (m, me.1) a gives (at_set_same s.views id m k at) role (omega arith) (λ z. absurd (omega arith)) (read_same setting docs p t known i a three) four in
+      let g = begins setting docs deeds p t known id i (slice_index s.words i) (m, me.1) a gives (at_set_same s.views id m k at) role (omega arith) (λ z. absurd (omega arith)) (read_same setting docs deeds p t known i a three) four in
       let c = covers p w id k all kept.legal in (
         new.0,
         gives,
         tt,
-        subst (λ (vs : List (Known W U X L)). Kept setting docs p (record { words = set s.words i (slice_index s.words i); homes = homes_after s.homes me.1 gives; views = vs })) (set_twice s.views id m new.0) g.0,
+        subst (λ (vs : List (Known W U X L)). Kept setting docs deeds p (record { words = set s.words i (slice_index s.words i); homes = homes_after s.homes me.1 gives; views = vs })) (set_twice s.views id m new.0) g.0,
         λ b j e has carried. subst (λ (z : (ℕ × ℕ) × D). HasTurned (Filled z.0.0 (z.0.1 + 1)) me.0.fresh (filling_with me (docs z.1)) new) (λ q. (ap laid (sym task ∙ has) q, ap (door_in d) (sym out ∙ carried) q)) record {
           log = w.log;
           pending = w.pending;

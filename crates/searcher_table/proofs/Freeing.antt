@@ -36,8 +36,8 @@ use Rattle.searcher_table.proofs.Beside.{Apart, first_within, not_counted, two_e
 use Rattle.searcher_table.proofs.Bits.{with, marked_here, marked_else, slots_beside}
 use Rattle.searcher_table.proofs.Slotted.{three_after, settled_parts}
 use Rattle.searcher_table.proofs.Slotting.{three_freed}
-use Rattle.searcher_table.specs.Doors.{laid, reached, shown_in, Four}
-use Rattle.searcher_table.proofs.Doors.{shown_next, four_freed}
+use Rattle.searcher_table.specs.Doors.{laid, reached, told_in, Four}
+use Rattle.searcher_table.proofs.Doors.{told_next, four_freed}
 use Rattle.searcher_table.proofs.Turning.{turns}
 
 -- ---- who can pin
@@ -79,10 +79,10 @@ same_of f tasks c slot g same has = dite (ℕ_discrete 0 c)
     (λ z. ap f (ap (put c Idle tasks) z ∙ put_here c Idle tasks) ∙ same ∙ ap f (sym (ap tasks z ∙ has)))
     (λ other. ap f (put_else c Idle tasks 0 other))
 
-module _ {D W U X L : Type 0} (setting : D → W) (docs : D → X) (p : Plan W) where
+module _ {D W U X L : Type 0} (setting : D → W) (docs : D → X) (deeds : D → List L) (p : Plan W) where
   pub frees : (slots id : ℕ) (me : Me (Cell D U) (Known W U X L)) (i q slot g : ℕ) (f : ℕ → ℕ) → i ≡ mask_word slot → slot < 128 → Acts me.0 → me.0.task ≡ Duty slot g
       → ((words : List ℕ) (long : length words ≡ word_count) (low : slot < 128) (n : ℕ) → f n ≡ with words slot long low n)
-      → Allows (Kept setting docs p) slots id me i f (Freed (step slots i q 0 maybe.none) me)
+      → Allows (Kept setting docs deeds p) slots id me i f (Freed (step slots i q 0 maybe.none) me)
   frees slots id me i q slot g f at_word low acts duty is s kept deep at small =
       let w = kept.world in
       let k = me.0 in
@@ -107,9 +107,9 @@ module _ {D W U X L : Type 0} (setting : D → W) (docs : D → X) (p : Plan W) 
       (same_of claimed w.tasks c slot g refl own) (same_of unsettled w.tasks c slot g refl own)
       (λ z. none-some g (sym (claimed_none p v (w.tasks 0) (released w.log) s.words (w.tasks 0) slot (kept.three.begun 0) z) ∙ d.opened))
       (marked_here s.words slot kept.words low) (marked_else s.words slot kept.words low) (slots_beside s.words slot x kept.words low)) in
-      let four : Four setting docs p (state_of l log) (shown_in log) (put c Idle w.tasks 0) w.filling s.homes =
-      subst (λ (z : State × (ℕ → Option X)). Four setting docs p z.0 z.1 (put c Idle w.tasks 0) w.filling s.homes) (λ j. (sym next j, λ h. sym (shown_next w.log e h) j))
-      (four_freed setting docs p L v (shown_in w.log) (w.tasks 0) (put c Idle w.tasks 0) g w.filling s.homes may.not_pinned (same_of reached w.tasks c slot g refl own) (same_of laid w.tasks c slot g refl own) kept.four) in
+      let four : Four setting docs deeds p (state_of l log) (told_in log) (put c Idle w.tasks 0) w.filling s.homes =
+      subst (λ (z : State × (ℕ → ℕ → Option X × List L)). Four setting docs deeds p z.0 z.1 (put c Idle w.tasks 0) w.filling s.homes) (λ j. (sym next j, λ h d. sym (told_next w.log e h d) j))
+      (four_freed setting docs deeds p v (told_in w.log) (w.tasks 0) (put c Idle w.tasks 0) g w.filling s.homes may.not_pinned (same_of reached w.tasks c slot g refl own) (same_of laid w.tasks c slot g refl own) kept.four) in
       let kept_slot : (h a : ℕ) → h ≢ g → v.slots a ≡ Some h → (after v e).slots a ≡ Some h = λ h a away z. ap (λ o. cond (is_some_of g o) None o) z ∙ ap (λ t. cond t None (Some h)) (ne_eqb h g away) in
       let apart : Apart l w.log e = record {
         current = refl;
@@ -127,7 +127,7 @@ module _ {D W U X L : Type 0} (setting : D → W) (docs : D → X) (p : Plan W) 
         new.0,
         keeps,
         tt,
-        turns setting docs p s kept id i (f (slice_index s.words i)) me log (e ∷ []) Idle k.fresh w.fresh_at keeps at acts (omega arith) refl (refl, tt) (inl (refl, tt)) legal two
+        turns setting docs deeds p s kept id i (f (slice_index s.words i)) me log (e ∷ []) Idle k.fresh w.fresh_at keeps at acts (omega arith) refl (refl, tt) (inl (refl, tt)) legal two
             (subst (λ (z : ℕ × ℕ). Three p (state_of l log) (released log) (put c Idle w.tasks 0) (put c Idle w.tasks) (set s.words z.0 z.1)) (λ j. (sym at_word j, sym value j)) three)
             four
             (λ j h away z. (z.here, warm h z.warming))

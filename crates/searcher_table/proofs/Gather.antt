@@ -29,8 +29,8 @@ module _ {W U X L : Type 0} where
     back = tt;
   }
 
-  pub joins : {D : Type 0} (setting : D → W) (docs : D → X) (p : Plan W) (id : ℕ) (k : Known W U X L) (other : ℕ) (o : Known W U X L) → Joins (Kept setting docs p) id k other o (joined k o) spent
-  joins setting docs p id k other o s kept at apart at' =
+  pub joins : {D : Type 0} (setting : D → W) (docs : D → X) (deeds : D → List L) (p : Plan W) (id : ℕ) (k : Known W U X L) (other : ℕ) (o : Known W U X L) → Joins (Kept setting docs deeds p) id k other o (joined k o) spent
+  joins setting docs deeds p id k other o s kept at apart at' =
       let w = kept.world in
       let one : List (Known W U X L) = set s.views id (joined k o) in
       let was : get_elem? s.views other ≡ some o = sym (set_else s.views id other (joined k o) apart) ∙ at' in

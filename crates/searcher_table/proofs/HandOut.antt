@@ -49,8 +49,8 @@ module _ {W U X L : Type 0} where
     back = f.back;
   }
 
-  pub splits : {D : Type 0} (setting : D → W) (docs : D → X) (p : Plan W) (id : ℕ) (k : Known W U X L) → Splits (Kept setting docs p) id k (kept_back k) (handed_out k)
-  splits setting docs p id k s kept at =
+  pub splits : {D : Type 0} (setting : D → W) (docs : D → X) (deeds : D → List L) (p : Plan W) (id : ℕ) (k : Known W U X L) → Splits (Kept setting docs deeds p) id k (kept_back k) (handed_out k)
+  splits setting docs deeds p id k s kept at =
       let w = kept.world in
       let f = kept.one.fits id k at in
       let left : List (Known W U X L) = set s.views id (kept_back k) in
@@ -94,8 +94,8 @@ module _ {W U X L : Type 0} where
       }
 
   -- splitting a seat off that has only seen as much
-  pub tells_on : {D : Type 0} (setting : D → W) (docs : D → X) (p : Plan W) (id : ℕ) (k : Known W U X L) → Splits (Kept setting docs p) id k (still k) (told_of k)
-  tells_on setting docs p id k s kept at =
+  pub tells_on : {D : Type 0} (setting : D → W) (docs : D → X) (deeds : D → List L) (p : Plan W) (id : ℕ) (k : Known W U X L) → Splits (Kept setting docs deeds p) id k (still k) (told_of k)
+  tells_on setting docs deeds p id k s kept at =
       let w = kept.world in
       let f = kept.one.fits id k at in
       record {

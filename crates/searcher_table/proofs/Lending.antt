@@ -1,5 +1,5 @@
 -- A pin is the same with another door: what is told of it says nothing of that.
-use Rattle.std.proofs.Common.{◌≡◌, ℕ, ◌≤◌, ◌<◌, List, [], ◌∷◌, count_by, Some, None}
+use Rattle.std.proofs.Common.{◌≡◌, ◌≤◌, ◌<◌, [], ◌∷◌, count_by, Some, None}
 use Rattle.std.proofs.Props.{props}
 use Rattle.std.specs.Arc.{arc_value}
 use Rattle.std.specs.Borrow.{RattleType}

@@ -17,11 +17,11 @@ use Rattle.searcher_table.specs.Steps.{looked, TellsCurrent, Looked, Peeked}
 use Rattle.searcher_table.proofs.Current.{tells}
 use Rattle.searcher_table.proofs.Frame.{set_same, own_task, one_after, covers}
 
-module _ {D W U X L : Type 0} (setting : D → W) (docs : D → X) (p : Plan W) where
+module _ {D W U X L : Type 0} (setting : D → W) (docs : D → X) (deeds : D → List L) (p : Plan W) where
   -- a word is read, and what is told may rest on what the rule says of it
   reads : (slots id : ℕ) (me : Me (Cell D U) (Known W U X L)) (i : ℕ) (then : ℕ → Me (Cell D U) (Known W U X L) → Type 0)
       → ((log : List (Entry U X L)) (words : List ℕ) (new : Me (Cell D U) (Known W U X L)) → Two p log words → Legal (limits p) log → (told : Looked (step slots i 0 0 maybe.none) me (slice_index words i) new) → told.log ≡ log → then (slice_index words i) new)
-      → Allows (Kept setting docs p) slots id me i (λ n. n) then
+      → Allows (Kept setting docs deeds p) slots id me i (λ n. n) then
   reads slots id me i then told s kept deep at small =
       let w = kept.world in
       let f = kept.one.fits id me.0 at in
@@ -50,11 +50,11 @@ module _ {D W U X L : Type 0} (setting : D → W) (docs : D → X) (p : Plan W) 
         } refl,
       )
 
-  pub looks : (slots id : ℕ) (me : Me (Cell D U) (Known W U X L)) (i : ℕ) → Allows (Kept setting docs p) slots id me i (λ n. n) (Looked (step slots i 0 0 maybe.none) me)
+  pub looks : (slots id : ℕ) (me : Me (Cell D U) (Known W U X L)) (i : ℕ) → Allows (Kept setting docs deeds p) slots id me i (λ n. n) (Looked (step slots i 0 0 maybe.none) me)
   looks slots id me i = reads slots id me i (Looked (step slots i 0 0 maybe.none) me) (λ _ _ _ _ _ told _. told)
 
   -- the current word tells what is current
-  pub peeks : (slots id : ℕ) (me : Me (Cell D U) (Known W U X L)) → me.0.plan ≡ Some p → Allows (Kept setting docs p) slots id me current_word (λ n. n) (Peeked (step slots current_word 0 0 maybe.none) me)
+  pub peeks : (slots id : ℕ) (me : Me (Cell D U) (Known W U X L)) → me.0.plan ≡ Some p → Allows (Kept setting docs deeds p) slots id me current_word (λ n. n) (Peeked (step slots current_word 0 0 maybe.none) me)
   peeks slots id me is = reads slots id me current_word (Peeked (step slots current_word 0 0 maybe.none) me)
       (λ log words new two legal told same. record {
         looked = told;

@@ -1,5 +1,5 @@
 -- Executing an opening keeps the rule: it opens the next generation.
-use Rattle.std.proofs.Common.{◌≡◌, ◌≢◌, ℕ, ◌+◌, ◌<◌, ◌≤◌, ◌||◌, cond, eq-eqb, List, [], ◌∷◌, ◌++◌, length, set, true, false, sym, refl, ap, ◌∙◌, subst, arith, Option, Some, None}
+use Rattle.std.proofs.Common.{◌≡◌, ◌≢◌, ℕ, ◌+◌, ◌<◌, ◌≤◌, ◌||◌, cond, eq-eqb, ne_eqb, List, [], ◌∷◌, ◌++◌, length, set, true, false, sym, refl, ap, ◌∙◌, subst, arith, Option, Some, None}
 use mathlib.Core.Option as maybe
 use prog.Atomic.{either}
 use Rattle.std.specs.Prelude.{◌==◌}
@@ -28,8 +28,8 @@ use Rattle.searcher_table.proofs.Standing.{bounded}
 use Rattle.searcher_table.proofs.Beside.{AreSame, call_beside, few_slots, first_within, kept_open, never_released, not_counted, opening_apart}
 use Rattle.searcher_table.proofs.Slotted.{three_words, three_after, slots_same}
 use Rattle.searcher_table.proofs.Slotting.{three_opened}
-use Rattle.searcher_table.specs.Doors.{shown_in, Four}
-use Rattle.searcher_table.proofs.Doors.{shown_next, four_opened}
+use Rattle.searcher_table.specs.Doors.{shown_in, left_in, told_in, Four}
+use Rattle.searcher_table.proofs.Doors.{told_next, four_opened}
 use Rattle.searcher_table.proofs.Execute.{executes}
 
 -- what is given, if anything is
@@ -40,18 +40,18 @@ given_or x (Some y) = y
 in_still : (f g : ℕ) (xs : List ℕ) → is_in f xs ≡ true → is_in f (xs ++ g ∷ []) ≡ true
 in_still f g xs is = in_append f xs (g ∷ []) ∙ ap (λ b. b || (g == f || false)) is
 
-module _ {D W U X L : Type 0} (setting : D → W) (docs : D → X) (p : Plan W) where
+module _ {D W U X L : Type 0} (setting : D → W) (docs : D → X) (deeds : D → List L) (p : Plan W) where
   -- an opening has the next generation, in the slot that was filled
   pub opens_next : (slots id : ℕ) (me : Me (Cell D U) (Known W U X L)) (i : ℕ) (h : Hand U) (slot n : ℕ) (x : X) → i ≡ call_word h.caller → 1 ≤ h.caller → h.caller ≤ 64 → me.0.hand ≡ Some h → me.0.registrar ≡ true → me.0.plan ≡ Some p
       → h.asked.call ≡ ToOpen → me.0.task ≡ Filled slot n → n ≡ p.callers → me.0.filling ≡ Some x → slot < (limits p).slots → (state_of (limits p) me.0.seen).slots slot ≡ None → length (state_of (limits p) me.0.seen).warming < p.max_warming → (state_of (limits p) me.0.seen).last_opened < last_generation
-      → Allows (Kept setting docs p) slots id me i (λ n. either (n == 1) 0 n) (Opened (step slots i 1 0 maybe.none) me)
+      → Allows (Kept setting docs deeds p) slots id me i (λ n. either (n == 1) 0 n) (Opened (step slots i 1 0 maybe.none) me)
   opens_next slots id me i h slot n x at_word low few has role told is full all shows below none room left =
       let l = limits p in
       let t = state_of l me.0.seen in
       let g : ℕ = t.last_opened + 1 in
       let e : Entry U X L = opening_of p me.0.seen h slot x in
       let fresh : Fresh = record { generation = g; slot = slot } in
-      executes setting docs p slots id me i (λ n. either (n == 1) 0 n) h e Idle (Some fresh) at_word low few (ap (λ c. either (code_of c == 1) 0 (code_of c)) is) has role
+      executes setting docs deeds p slots id me i (λ n. either (n == 1) 0 n) h e Idle (Some fresh) at_word low few (ap (λ c. either (code_of c == 1) 0 (code_of c)) is) has role
       record { caller = refl; content = refl; call = ap (λ x. Some x) (sym is) }
       (λ log q. let o = quiet_since l log me.0.seen q in record {
         room = subst (λ (gs : List ℕ). length gs < p.max_warming) (sym o.warming) room;
@@ -75,10 +75,12 @@ module _ {D W U X L : Type 0} (setting : D → W) (docs : D → X) (p : Plan W) 
         fresh_at = put g id w.fresh_at;
         three = three_after p w.log e Idle (put 0 Idle w.tasks) (set s.words i 0) (λ h. not_counted (releases h) w.log e refl) after_it;
         four =
-            let before : Four setting docs p v (shown_in w.log) (Filled slot n) (Some x) s.homes =
-            subst (λ (z : Task × Option X). Four setting docs p v (shown_in w.log) z.0 z.1 s.homes) (λ j. ((sym r.task ∙ full) j, (sym r.filling ∙ shows) j)) kept.four in
-            subst (λ (z : State × (ℕ → Option X) × Option X). Four setting docs p z.0 z.1 Idle z.2 s.homes) (λ j. (sym next j, λ y. sym (shown_next w.log e y) j, (sym shows ∙ r.filling) j))
-            (four_opened setting docs p L v (shown_in w.log) slot n h.caller g h.asked.content x s.homes all may.free olds before);
+            let before : Four setting docs deeds p v (told_in w.log) (Filled slot n) (Some x) s.homes =
+            subst (λ (z : Task × Option X). Four setting docs deeds p v (told_in w.log) z.0 z.1 s.homes) (λ j. ((sym r.task ∙ full) j, (sym r.filling ∙ shows) j)) kept.four in
+            subst (λ (z : State × Option X). Four setting docs deeds p z.0 (told_in (w.log ++ e ∷ [])) Idle z.1 s.homes) (λ j. (sym next j, (sym shows ∙ r.filling) j))
+            (four_opened setting docs deeds p v (told_in w.log) (told_in (w.log ++ e ∷ [])) slot n h.caller g h.asked.content x s.homes all may.free olds
+            (λ y d at. told_next w.log e y d ∙ (λ j. (cond (eq-eqb y g at j) (Some x) (shown_in w.log y), cond (eq-eqb y g at j) [] (left_in w.log y d))))
+            (λ y d away. told_next w.log e y d ∙ (λ j. (cond (ne_eqb y g away j) (Some x) (shown_in w.log y), cond (ne_eqb y g away j) [] (left_in w.log y d)))) before);
         others = λ j f away (i : IsFresh w j l f). (
           put_else g id w.fresh_at f.generation (olds f.slot f.generation i.warming.opened) ∙ i.here,
           subst (λ (z : State). IsWarming z f) (sym next) record { warming = in_still f.generation g v.warming i.warming.warming; opened = kept_open v.slots slot g f.slot f.generation may.free i.warming.opened },

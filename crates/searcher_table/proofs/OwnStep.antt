@@ -26,7 +26,7 @@ use Rattle.searcher_table.specs.Steps.{looked}
 use Rattle.searcher_table.specs.declared.board.Task.{Task}
 use Rattle.searcher_table.specs.declared.board.Fresh.{Fresh}
 use Rattle.searcher_table.specs.Tasks.{IsWarming, Three}
-use Rattle.searcher_table.specs.Doors.{shown_in, Four}
+use Rattle.searcher_table.specs.Doors.{told_in, Four}
 use Rattle.searcher_table.proofs.Quiet.{state_next}
 use Rattle.searcher_table.proofs.Frame.{put, put_here, put_else, moved, Leaves, starts_later, one_after}
 use Rattle.searcher_table.proofs.Handing.{another}
@@ -91,13 +91,13 @@ module _ {U X L : Type 0} (w : World U X L) (c id : ℕ) (e : Entry U X L) (name
         record { here = g.here; dealt = g.dealt; mine = no_entry c o.caller w.log e named n ∙ g.mine; none = g.none };
   }
 
-module _ {D W U X L : Type 0} (setting : D → W) (docs : D → X) (p : Plan W) where
-  pub own_step : (s : State (Cell D U) (Known W U X L)) (kept : Kept setting docs p s) (id i x : ℕ) (me : Me (Cell D U) (Known W U X L)) (e : Entry U X L) (task : Task) (act : Act (Cell D U)) → get_elem? s.views id ≡ some me.0 → 1 ≤ me.0.caller → me.0.back ≡ [] → i < 640
+module _ {D W U X L : Type 0} (setting : D → W) (docs : D → X) (deeds : D → List L) (p : Plan W) where
+  pub own_step : (s : State (Cell D U) (Known W U X L)) (kept : Kept setting docs deeds p s) (id i x : ℕ) (me : Me (Cell D U) (Known W U X L)) (e : Entry U X L) (task : Task) (act : Act (Cell D U)) → get_elem? s.views id ≡ some me.0 → 1 ≤ me.0.caller → me.0.back ≡ [] → i < 640
       → caller_of e ≡ Some me.0.caller → has_place e ≡ false → IsAllowed (limits p) (state_of (limits p) kept.world.log) e → Two p (kept.world.log ++ e ∷ []) (set s.words i x)
       → Three p (after (state_of (limits p) kept.world.log) e) (released (kept.world.log ++ e ∷ [])) (kept.world.tasks 0) (put me.0.caller task kept.world.tasks) (set s.words i x)
-      → Four setting docs p (after (state_of (limits p) kept.world.log) e) (shown_in (kept.world.log ++ e ∷ [])) (kept.world.tasks 0) kept.world.filling (homes_after s.homes me.1 act)
+      → Four setting docs deeds p (after (state_of (limits p) kept.world.log) e) (told_in (kept.world.log ++ e ∷ [])) (kept.world.tasks 0) kept.world.filling (homes_after s.homes me.1 act)
       → ((f : Fresh) → IsWarming (state_of (limits p) kept.world.log) f → IsWarming (after (state_of (limits p) kept.world.log) e) f)
-      → Kept setting docs p (stepped s i x id me.1 (record (looked me.0 (kept.world.log ++ e ∷ []) kept.world.pending) { hand = None; task = task; fresh = me.0.fresh }) act)
+      → Kept setting docs deeds p (stepped s i x id me.1 (record (looked me.0 (kept.world.log ++ e ∷ []) kept.world.pending) { hand = None; task = task; fresh = me.0.fresh }) act)
   own_step s kept id i x me e task act at low bare below named placeless may two three four warm =
       let w = kept.world in
       let k = me.0 in
@@ -115,7 +115,7 @@ module _ {D W U X L : Type 0} (setting : D → W) (docs : D → X) (p : Plan W) 
         legal = grows_legal l w.log e kept.legal may;
         two = two;
         three = subst (λ (z : MachineState × Task). Three p z.0 (released log) z.1 tasks (set s.words i x)) (λ j. (sym next j, sym (put_else c task w.tasks 0 (λ z. absurd (omega arith))) j)) three;
-        four = subst (λ (z : MachineState × Task). Four setting docs p z.0 (shown_in log) z.1 w.filling (homes_after s.homes me.1 act)) (λ j. (sym next j, sym (put_else c task w.tasks 0 (λ z. absurd (omega arith))) j)) four;
+        four = subst (λ (z : MachineState × Task). Four setting docs deeds p z.0 (told_in log) z.1 w.filling (homes_after s.homes me.1 act)) (λ j. (sym next j, sym (put_else c task w.tasks 0 (λ z. absurd (omega arith))) j)) four;
         one = one_after p w log w.pending w.hand_at tasks w.fresh_at id k None task k.fresh s.words (set s.words i x) s.views kept.one at (leaves w c id e named placeless f.here W l task low warm_after)
             (λ d l h. get_or-set_other s.words i (call_word d) x 0 (λ z. absurd (omega arith)) ∙ kept.one.calls d l h)
             (λ d past. let u = kept.one.undealt d past in

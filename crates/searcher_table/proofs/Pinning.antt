@@ -80,11 +80,11 @@ module _ {D U W X L : Type 0} where
       }
 
   -- after a release by a seat that has put its door back
-  pub released_by : (p : Plan W) (c g slot n : ℕ) (k : Known W U X L) (out : List (ℕ × Cell D U)) (met new : Me (Cell D U) (Known W U X L)) → met ≡ (k, out) → k.plan ≡ Some p → k.caller ≡ c → 1 ≤ c → HasMade (Release met.0.caller g []) (duty_by n slot g) met (new.0, met.1)
-      → HasKept p c (k, out) (new.0, out) (Release c g []) (duty_by n slot g)
-  released_by p c g slot n k out met new is told numbered low made =
-      let here : HasMade (Release k.caller g []) (duty_by n slot g) (k, out) (new.0, out) = subst (λ (m : Me (Cell D U) (Known W U X L)). HasMade (Release m.0.caller g []) (duty_by n slot g) m (new.0, m.1)) is made in
-      kept_by p c (k, out) (new.0, out) (Release c g []) (duty_by n slot g) told numbered low refl (subst (λ (d : ℕ). HasMade (Release d g []) (duty_by n slot g) (k, out) (new.0, out)) numbered here)
+  pub released_by : (p : Plan W) (c g slot n : ℕ) (ls : List L) (k : Known W U X L) (out : List (ℕ × Cell D U)) (met new : Me (Cell D U) (Known W U X L)) → met ≡ (k, out) → k.plan ≡ Some p → k.caller ≡ c → 1 ≤ c → HasMade (Release met.0.caller g ls) (duty_by n slot g) met (new.0, met.1)
+      → HasKept p c (k, out) (new.0, out) (Release c g ls) (duty_by n slot g)
+  released_by p c g slot n ls k out met new is told numbered low made =
+      let here : HasMade (Release k.caller g ls) (duty_by n slot g) (k, out) (new.0, out) = subst (λ (m : Me (Cell D U) (Known W U X L)). HasMade (Release m.0.caller g ls) (duty_by n slot g) m (new.0, m.1)) is made in
+      kept_by p c (k, out) (new.0, out) (Release c g ls) (duty_by n slot g) told numbered low refl (subst (λ (d : ℕ). HasMade (Release d g ls) (duty_by n slot g) (k, out) (new.0, out)) numbered here)
 
   -- what the step leaves that frees a slot
   pub record HasFreedOne (p : Plan W) (c : ℕ) (me new : Me (Cell D U) (Known W U X L)) (g : ℕ) : Type 0 where

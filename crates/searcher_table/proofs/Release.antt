@@ -24,8 +24,8 @@ use Rattle.searcher_table.specs.Rule.{CountsTooEarly, IsPacked, Two, released, K
 use Rattle.searcher_table.specs.declared.board.Task.{Task}
 use Rattle.searcher_table.specs.declared.board.Task.TheVariants.{Idle, Duty}
 use Rattle.searcher_table.specs.Tasks.{is_settled, IsTask, Three}
-use Rattle.searcher_table.specs.Doors.{cell_of, shown_in, IsDoor, Four}
-use Rattle.searcher_table.proofs.Doors.{cell_below, shown_next, filled_none, four_own}
+use Rattle.searcher_table.specs.Doors.{cell_of, shown_in, left_in, left_after, told_in, IsDoor, IsDoorLeft, Four}
+use Rattle.searcher_table.proofs.Doors.{cell_below, told_next, filled_none, four_own}
 use Rattle.searcher_table.proofs.Showing.{shown_stays}
 use Rattle.searcher_table.specs.Steps.{looked, duty_by, HasMade, Released}
 use Rattle.searcher_table.proofs.Slotted.{three_released}
@@ -41,7 +41,7 @@ cond_most : (b : Bool) (n : ℕ) → cond b n 0 ≤ n
 cond_most true n = omega arith
 cond_most false n = omega arith
 
-module _ {W U X L : Type 0} (p : Plan W) (log : List (Entry U X L)) (words : List ℕ) (tasks : ℕ → Task) (c g slot x : ℕ) (long : length words ≡ word_count) (legal : Legal (limits p) log) (two : Two p log words) (three : Three p (state_of (limits p) log) (released log) (tasks 0) tasks words)
+module _ {W U X L : Type 0} (p : Plan W) (log : List (Entry U X L)) (ls : List L) (words : List ℕ) (tasks : ℕ → Task) (c g slot x : ℕ) (long : length words ≡ word_count) (legal : Legal (limits p) log) (two : Two p log words) (three : Three p (state_of (limits p) log) (released log) (tasks 0) tasks words)
     (low : 1 ≤ c) (few_callers : c ≤ 64) (pins : (state_of (limits p) log).pins c ≡ Some g) (here : (state_of (limits p) log).slots slot ≡ Some g) where
   -- the word has room for one more
   fits : (slice_index words (slot_word slot) + 1) % 2 ^ 64 ≡ slice_index words (slot_word slot) + 1
@@ -54,10 +54,10 @@ module _ {W U X L : Type 0} (p : Plan W) (log : List (Entry U X L)) (words : Lis
       omega arith
 
   -- what the words say after a release
-  two_released : x ≡ slice_index words (slot_word slot) + 1 → Two p (log ++ Release c g [] ∷ []) (set words (slot_word slot) x)
+  two_released : x ≡ slice_index words (slot_word slot) + 1 → Two p (log ++ Release c g ls ∷ []) (set words (slot_word slot) x)
   two_released is =
       let l = limits p in
-      let e : Entry U X L = Release c g [] in
+      let e : Entry U X L = Release c g ls in
       let next = state_next l log e in
       let below = open_below p log slot g two.sizes legal here in
       let others : (i : ℕ) → i ≢ slot_word slot → slice_index (set words (slot_word slot) x) i ≡ slice_index words i = λ i n. get_or-set_other words (slot_word slot) i x 0 n in
@@ -110,51 +110,66 @@ module _ {W U X L : Type 0} (p : Plan W) (log : List (Entry U X L)) (words : Lis
       ap (λ z. cond z (Duty slot g) Idle) (ne_eqb (found / 4294967296) (found % 4294967296 + 2) (λ z. absurd (omega arith)))
 
   -- the slots after the release
-  three_later : tasks c ≡ Idle → c ≤ p.callers → x ≡ slice_index words (slot_word slot) + 1 → Three p (after {U = U} {D = X} {L = L} s (Release c g [])) (released (log ++ Release c g [] ∷ [])) own (put c (duty_by found slot g) tasks) (set words (slot_word slot) x)
+  three_later : tasks c ≡ Idle → c ≤ p.callers → x ≡ slice_index words (slot_word slot) + 1 → Three p (after {U = U} {D = X} {L = L} s (Release c g ls)) (released (log ++ Release c g ls ∷ [])) own (put c (duty_by found slot g) tasks) (set words (slot_word slot) x)
   three_later idle callers is =
-      let e : Entry U X L = Release c g [] in
+      let e : Entry U X L = Release c g ls in
       let below = open_below p log slot g two.sizes legal here in
       let pinned = pinned_counts (limits p) g c log legal two.named low few_callers pins in
       let more : released (log ++ e ∷ []) g ≡ released log g + 1 = (let b = counts_last (releases g) log e in let f : cond {A = ℕ} (g == g) 1 0 ≡ 1 = ap (λ b. cond b 1 0) (eq-eqb g g refl) in omega arith) in
       let b = bounded (limits p) log (first_within p two.sizes) legal in
-      three_released U X L p s (released log) tasks words three c g slot (released (log ++ e ∷ [])) (set words (slot_word slot) x) (duty_by found slot g) (λ z. absurd (omega arith)) callers below here idle pinned
+      three_released U X L p s (released log) tasks words three c g slot ls (released (log ++ e ∷ [])) (set words (slot_word slot) x) (duty_by found slot g) (λ z. absurd (omega arith)) callers below here idle pinned
       (λ a at. b.one a slot g at here) more (λ h away. not_counted (releases h) log e (ne_eqb g h (λ z. away (sym z))))
       (get_or-set_same words (slot_word slot) x 0 (omega arith) ∙ is) (λ i n. get_or-set_other words (slot_word slot) i x 0 n)
       (λ settled out. last_release true settled ∙ ap (λ z. cond z (Duty slot g) Idle) (eq-eqb (s.acquired g) (released log g + 1) (sym out ∙ more)))
       (by_test (is_settled s own g) refl)
     where
-      by_count : is_settled s own g ≡ true → (b : Bool) → (s.acquired g == released log g + 1) ≡ b → (duty_by found slot g ≡ Idle) ⊎ ((duty_by found slot g ≡ Duty slot g) × (is_settled s own g ≡ true) × (released (log ++ Release c g [] ∷ []) g ≡ s.acquired g))
+      by_count : is_settled s own g ≡ true → (b : Bool) → (s.acquired g == released log g + 1) ≡ b → (duty_by found slot g ≡ Idle) ⊎ ((duty_by found slot g ≡ Duty slot g) × (is_settled s own g ≡ true) × (released (log ++ Release c g ls ∷ []) g ≡ s.acquired g))
       by_count settled true e = inr (
         last_release true settled ∙ ap (λ z. cond z (Duty slot g) Idle) e,
         settled,
-        (let m = counts_last (releases g) log (Release c g []) in let f : cond {A = ℕ} (g == g) 1 0 ≡ 1 = ap (λ b. cond b 1 0) (eq-eqb g g refl) in let t = test_same (s.acquired g) (released log g + 1) e in omega arith),
+        (let m = counts_last (releases g) log (Release c g ls) in let f : cond {A = ℕ} (g == g) 1 0 ≡ 1 = ap (λ b. cond b 1 0) (eq-eqb g g refl) in let t = test_same (s.acquired g) (released log g + 1) e in omega arith),
       )
       by_count settled false e = inl (last_release true settled ∙ ap (λ z. cond z (Duty slot g) Idle) e)
 
-      by_test : (b : Bool) → is_settled s own g ≡ b → (duty_by found slot g ≡ Idle) ⊎ ((duty_by found slot g ≡ Duty slot g) × (is_settled s own g ≡ true) × (released (log ++ Release c g [] ∷ []) g ≡ s.acquired g))
+      by_test : (b : Bool) → is_settled s own g ≡ b → (duty_by found slot g ≡ Idle) ⊎ ((duty_by found slot g ≡ Duty slot g) × (is_settled s own g ≡ true) × (released (log ++ Release c g ls ∷ []) g ≡ s.acquired g))
       by_test true e = by_count e (s.acquired g == released log g + 1) refl
       by_test false e = inl (last_release false e)
 
+-- what a release leaves of the deeds of others' doors, and of its own
+module _ {L : Type 0} (U X : Type 0) (c g : ℕ) (ls : List L) (left : ℕ → ℕ → List L) where
+  pub still_left : (h b : ℕ) → (h ≢ g) ⊎ (b ≢ c) → left_after {U = U} {X = X} left (Release c g ls) h b ≡ left h b
+  still_left h b away = ⊎_elim
+      (λ n. ap (λ z. cond z (cond (b == c) ls (left h b)) (left h b)) (ne_eqb h g n))
+      (λ n. ap (λ z. cond (h == g) (cond z ls (left h b)) (left h b)) (ne_eqb b c n) ∙ either_way (h == g) (left h b))
+      away
+    where
+      either_way : (z : Bool) (l : List L) → cond z l l ≡ l
+      either_way true l = refl
+      either_way false l = refl
+
+  pub now_left : left_after {U = U} {X = X} left (Release c g ls) g c ≡ ls
+  now_left = (λ i. cond (eq-eqb g g refl i) (cond (eq-eqb c c refl i) ls (left g c)) (left g c))
+
 -- the act of a release: the door is back in its cell
-module _ {D W U X L : Type 0} (setting : D → W) (docs : D → X) (p : Plan W) (log : List (Entry U X L)) (c slot g : ℕ) (own : Task) (filling : Option X) (homes : List (maybe.Option (Cell D U))) (d : D) where
-  gives_by : (rel : ℕ → ℕ) (words : List ℕ) → Four setting docs p (state_of (limits p) log) (shown_in log) own filling homes → p.callers ≤ 64 → 1 ≤ c → c ≤ p.callers → (state_of (limits p) log).pins c ≡ Some g
+module _ {D W U X L : Type 0} (setting : D → W) (docs : D → X) (deeds : D → List L) (p : Plan W) (log : List (Entry U X L)) (c slot g : ℕ) (own : Task) (filling : Option X) (homes : List (maybe.Option (Cell D U))) (d : D) where
+  gives_by : (rel : ℕ → ℕ) (words : List ℕ) → Four setting docs deeds p (state_of (limits p) log) (told_in log) own filling homes → p.callers ≤ 64 → 1 ≤ c → c ≤ p.callers → (state_of (limits p) log).pins c ≡ Some g
       → (state_of (limits p) log).slots slot ≡ Some g → slot < (limits p).slots → IsTask p (state_of (limits p) log) own rel words 0 own → ((b : ℕ) → (state_of (limits p) log).slots b ≡ Some g → b ≡ slot) → IsDoor setting docs p (shown_in log g) d
-      → Four setting docs p (after {U = U} {D = X} {L = L} (state_of (limits p) log) (Release c g [])) (shown_in (log ++ Release c g [] ∷ [])) own filling (set homes (cell_of slot c) (some (Full d)))
+      → Four setting docs deeds p (after {U = U} {D = X} {L = L} (state_of (limits p) log) (Release c g (deeds d))) (told_in (log ++ Release c g (deeds d) ∷ [])) own filling (set homes (cell_of slot c) (some (Full d)))
   gives_by rel words four few low within pins here below begun one is =
       let s : State = state_of (limits p) log in
-      let e : Entry U X L = Release c g [] in
+      let e : Entry U X L = Release c g (deeds d) in
       let cell : ℕ = cell_of slot c in
       let in_it : cell < 64 * (limits p).slots = cell_below slot c (limits p).slots below low (omega arith) in
       let long = four.size in
-      four_own setting docs p s (after {U = U} {D = X} {L = L} s e) (shown_in log) (shown_in (log ++ e ∷ [])) own filling homes (set homes cell (some (Full d))) slot g c four few here low (omega arith) one (filled_none p s own rel words own begun)
-      (λ _. refl) (λ b other. ap (λ z. cond z None (s.pins b)) (ne_eqb b c other)) (λ h away z. away (same_Some h g (sym z ∙ pins))) (λ h. shown_next log e h)
+      four_own setting docs deeds p s (after {U = U} {D = X} {L = L} s e) (told_in log) (told_in (log ++ e ∷ [])) own filling homes (set homes cell (some (Full d))) slot g c four few here low (omega arith) one (filled_none p s own rel words own begun)
+      (λ _. refl) (λ b other. ap (λ z. cond z None (s.pins b)) (ne_eqb b c other)) (λ h away z. away (same_Some h g (sym z ∙ pins))) (λ h b away. told_next log e h b ∙ (λ i. (shown_in log h, still_left U X c g (deeds d) (left_in log) h b away i)))
       (length-set homes cell (some (Full d))) (λ j away. set_else homes cell j (some (Full d)) away)
-      (λ _. (d, set_here homes cell (some (Full d)) (omega arith), is))
+      (λ _. (d, set_here homes cell (some (Full d)) (omega arith), subst (λ (o : Option X × List L). IsDoorLeft setting docs deeds p o d) (sym (told_next log e g c ∙ (λ i. (shown_in log g, now_left U X c g (deeds d) (left_in log) i)))) (is, refl)))
 
-module _ {D W U X L : Type 0} (setting : D → W) (docs : D → X) (p : Plan W) where
+module _ {D W U X L : Type 0} (setting : D → W) (docs : D → X) (deeds : D → List L) (p : Plan W) where
   pub releases_slot : (slots id : ℕ) (me : Me (Cell D U) (Known W U X L)) (i slot g : ℕ) → i ≡ slot_word slot → slot < 70 → 1 ≤ me.0.caller → me.0.caller ≤ 64 → me.0.back ≡ []
       → pinned me.0.caller me.0.mine ≡ Some g → me.0.task ≡ Idle → (state_of (limits p) me.0.seen).slots slot ≡ Some g → (d : D) → me.1 ≡ (cell_of slot me.0.caller, Full d) ∷ [] → IsDoor setting docs p (shown_in me.0.seen g) d
-      → Allows (Kept setting docs p) slots id me i (λ n. (n + 1) % 2 ^ 64) (Released (step slots i 1 0 maybe.none) me)
+      → Allows (Kept setting docs deeds p) slots id me i (λ n. (n + 1) % 2 ^ 64) (Released deeds (step slots i 1 0 maybe.none) me)
   releases_slot slots id me i slot g at_word below low few bare holds idle opened d out is_door s kept deep at small =
       let w = kept.world in
       let k = me.0 in
@@ -162,43 +177,48 @@ module _ {D W U X L : Type 0} (setting : D → W) (docs : D → X) (p : Plan W) 
       let all = kept.one.fits id k at in
       let calls = (all.pass low).calls in
       let l = limits p in
-      let e : Entry U X L = Release c g [] in
+      let e : Entry U X L = Release c g (deeds d) in
       let log : List (Entry U X L) = w.log ++ e ∷ [] in
       let x : ℕ = (slice_index s.words i + 1) % 2 ^ 64 in
       let pins : (state_of l w.log).pins c ≡ Some g = pins_own l c w.log ∙ pinned_still c k.mine (mine c w.log) k.announced (w.pending c) calls ∙ holds in
       let here = slot_stays l w.log k.seen all.seen.0 c g slot (first_within p kept.two.sizes) kept.legal all.seen.1 opened pins in
       let is : x ≡ slice_index s.words (slot_word slot) + 1 =
-      ap (λ n. (slice_index s.words n + 1) % 2 ^ 64) at_word ∙ fits p w.log s.words w.tasks c g slot x kept.words kept.legal kept.two kept.three low few pins here in
-      let later = subst (λ (n : ℕ). Two p log (set s.words n x)) (sym at_word) (two_released p w.log s.words w.tasks c g slot x kept.words kept.legal kept.two kept.three low few pins here is) in
+      ap (λ n. (slice_index s.words n + 1) % 2 ^ 64) at_word ∙ fits p w.log (deeds d) s.words w.tasks c g slot x kept.words kept.legal kept.two kept.three low few pins here in
+      let later = subst (λ (n : ℕ). Two p log (set s.words n x)) (sym at_word) (two_released p w.log (deeds d) s.words w.tasks c g slot x kept.words kept.legal kept.two kept.three low few pins here is) in
       let task : Task = duty_by (slice_index s.words i) slot g in
       let few_passes = kept.one.few in
       let dealt = (all.pass low).dealt in
       let slots : Three p (after (state_of l w.log) e) (released log) (w.tasks 0) (put c task w.tasks) (set s.words i x) =
       subst (λ (n : ℕ). Three p (after (state_of l w.log) e) (released log) (w.tasks 0) (put c (duty_by (slice_index s.words n) slot g) w.tasks) (set s.words n x)) (sym at_word)
-      (three_later p w.log s.words w.tasks c g slot x kept.words kept.legal kept.two kept.three low few pins here (sym (all.pass low).task ∙ idle) (omega arith) is) in
+      (three_later p w.log (deeds d) s.words w.tasks c g slot x kept.words kept.legal kept.two kept.three low few pins here (sym (all.pass low).task ∙ idle) (omega arith) is) in
       let b = bounded l w.log (first_within p kept.two.sizes) kept.legal in
       let cell : ℕ = cell_of slot c in
-      let four_here : Four setting docs p (after (state_of l w.log) e) (shown_in log) (w.tasks 0) w.filling (set s.homes cell (some (Full d))) =
-      gives_by setting docs p w.log c slot g (w.tasks 0) w.filling s.homes d (released w.log) s.words kept.four kept.two.sizes.callers low (omega arith) pins here (b.below slot g here) (kept.three.begun 0) (λ a z. b.one a slot g z here)
+      let four_here : Four setting docs deeds p (after (state_of l w.log) e) (told_in log) (w.tasks 0) w.filling (set s.homes cell (some (Full d))) =
+      gives_by setting docs deeds p w.log c slot g (w.tasks 0) w.filling s.homes d (released w.log) s.words kept.four kept.two.sizes.callers low (omega arith) pins here (b.below slot g here) (kept.three.begun 0) (λ a z. b.one a slot g z here)
       (subst (λ (o : Option X). IsDoor setting docs p o d) (sym (shown_stays l w.log k.seen all.seen.0 slot g (first_within p kept.two.sizes) kept.legal all.seen.1 opened)) is_door) in
-      let four : Four setting docs p (after (state_of l w.log) e) (shown_in log) (w.tasks 0) w.filling (homes_after s.homes me.1 gives) =
-      subst (λ (hs : List (ℕ × Cell D U)). Four setting docs p (after (state_of l w.log) e) (shown_in log) (w.tasks 0) w.filling (homes_after s.homes hs gives)) (sym out) four_here in
+      let four : Four setting docs deeds p (after (state_of l w.log) e) (told_in log) (w.tasks 0) w.filling (homes_after s.homes me.1 gives) =
+      subst (λ (hs : List (ℕ × Cell D U)). Four setting docs deeds p (after (state_of l w.log) e) (told_in log) (w.tasks 0) w.filling (homes_after s.homes hs gives)) (sym out) four_here in
       let new : Me (Cell D U) (Known W U X L) = (record (looked k log w.pending) { hand = None; task = task; fresh = k.fresh }, me.1) in (
         new.0,
         gives,
         tt,
-        own_step setting docs p s kept id i x me e task gives at low bare (omega arith) refl refl pins later slots four (λ f z. record { warming = z.warming; opened = z.opened }),
-        λ t h at_slot same. (
-          subst (λ (n : ℕ × ℕ). HasMade (Release c n.1 []) (duty_by (slice_index s.words i) n.0 n.1) me new) (λ j. ((let q : slot ≡ t = omega arith in q) j, same_Some g h (sym holds ∙ same) j)) record {
-            entered = record {
-              log = w.log;
-              pending = w.pending;
-              covers = covers p w id k all kept.legal;
-              legal = λ q eq. subst (λ (r : Plan W). Legal (limits r) log) (sym (all.plan q eq)) (grows_legal l w.log e kept.legal pins);
-              after = refl;
-            };
-            calls = λ _. calls;
-          },
+        own_step setting docs deeds p s kept id i x me e task gives at low bare (omega arith) refl refl pins later slots four (λ f z. record { warming = z.warming; opened = z.opened }),
+        λ t h x at_slot same carried. (
+          subst (λ (n : (ℕ × ℕ) × D). HasMade (Release c n.0.1 (deeds n.1)) (duty_by (slice_index s.words i) n.0.0 n.0.1) me new)
+              (λ j. (((let q : slot ≡ t = omega arith in q) j, same_Some g h (sym holds ∙ same) j), ap (door_in d) (sym out ∙ carried) j)) record {
+                entered = record {
+                  log = w.log;
+                  pending = w.pending;
+                  covers = covers p w id k all kept.legal;
+                  legal = λ q eq. subst (λ (r : Plan W). Legal (limits r) log) (sym (all.plan q eq)) (grows_legal l w.log e kept.legal pins);
+                  after = refl;
+                };
+                calls = λ _. calls;
+              },
           refl,
         ),
       )
+    where
+      door_in : D → List (ℕ × Cell D U) → D
+      door_in e ((k, Full x) ∷ xs) = x
+      door_in e _ = e

@@ -25,7 +25,7 @@ use Rattle.searcher_table.proofs.Standing.{bounded}
 use Rattle.searcher_table.proofs.Beside.{first_within, open_below}
 use Rattle.searcher_table.proofs.Slotted.{own_is, idle_duty, duty_parts, settled_parts, map_duty, begun_by, duty_still, was_duty}
 use Rattle.searcher_table.proofs.Freeing.{nothing_pinned}
-use Rattle.searcher_table.specs.Doors.{reached, shown_in}
+use Rattle.searcher_table.specs.Doors.{reached, told_in}
 use Rattle.searcher_table.proofs.Doors.{claims_none, four_begun}
 use Rattle.searcher_table.proofs.Claiming.{begins, own_is as task_is}
 
@@ -124,16 +124,16 @@ module _ {W : Type 0} (p : Plan W) (s : State) (rel : ℕ → ℕ) (tasks : ℕ 
           (settled_parts s (tasks 0) g f.settled).2 told)
           by
 
-module _ {D W U X L : Type 0} (setting : D → W) (docs : D → X) (p : Plan W) where
+module _ {D W U X L : Type 0} (setting : D → W) (docs : D → X) (deeds : D → List L) (p : Plan W) where
   pub settles : (slots id : ℕ) (me : Me (Cell D U) (Known W U X L)) (i q slot g total : ℕ) → i ≡ slot_word slot → q ≡ (total + 1) * 4294967296 → me.0.registrar ≡ true → me.0.task ≡ Unsettled slot g total
-      → Allows (Kept setting docs p) slots id me i (λ n. (n + q) % 2 ^ 64) (Settled (step slots i q 0 maybe.none) me)
+      → Allows (Kept setting docs deeds p) slots id me i (λ n. (n + q) % 2 ^ 64) (Settled (step slots i q 0 maybe.none) me)
   settles slots id me i q slot g total at_word more role task s kept deep at small =
       let w = kept.world in
       let k = me.0 in
       let l = limits p in
       let all = kept.one.fits id k at in
       let v : State = state_of l w.log in
-      let own = task_is setting docs p s kept id k (Unsettled slot g total) at role task in
+      let own = task_is setting docs deeds p s kept id k (Unsettled slot g total) at role task in
       let long = kept.words in
       let here = mine p v (released w.log) w.tasks s.words s.words kept.three slot g total own in
       let low = open_below p w.log slot g kept.two.sizes kept.legal here.opened in
@@ -155,12 +155,12 @@ module _ {D W U X L : Type 0} (setting : D → W) (docs : D → X) (p : Plan W) 
       let three : Three p v (released w.log) a (put 0 a w.tasks) news =
       three_settled p v (released w.log) w.tasks s.words news kept.three slot g total own a low (λ c z. b.one c slot g z here.opened) (nothing_pinned p w.log kept.two.named) kinds.0 kinds.1 kinds.2
       (get_or-set_same s.words (slot_word slot) x 0 (omega arith) ∙ sum) (λ j away. get_or-set_other s.words (slot_word slot) j x 0 away) in
-      let goes = begins setting docs p s kept id (slot_word slot) x me a keeps at role (omega arith) (λ z. absurd (omega arith)) three
-      (four_begun setting docs p v (shown_in w.log) (w.tasks 0) a w.filling s.homes (ap reached own) (claims_none a kinds.1).1 kept.four) in (
+      let goes = begins setting docs deeds p s kept id (slot_word slot) x me a keeps at role (omega arith) (λ z. absurd (omega arith)) three
+      (four_begun setting docs deeds p v (told_in w.log) (w.tasks 0) a w.filling s.homes (ap reached own) (claims_none a kinds.1).1 kept.four) in (
         record (looked k w.log w.pending) { hand = None; task = settled_by (slice_index s.words i) slot g total; fresh = k.fresh },
         keeps,
         tt,
-        subst (λ (m : ℕ). Kept setting docs p (stepped s m ((slice_index s.words m + q) % 2 ^ 64) id me.1 (record (looked k w.log w.pending) { hand = None; task = settled_by (slice_index s.words m) slot g total; fresh = k.fresh }) keeps)) (sym at_word) goes.0,
+        subst (λ (m : ℕ). Kept setting docs deeds p (stepped s m ((slice_index s.words m + q) % 2 ^ 64) id me.1 (record (looked k w.log w.pending) { hand = None; task = settled_by (slice_index s.words m) slot g total; fresh = k.fresh }) keeps)) (sym at_word) goes.0,
         λ c h t has. subst (λ (z : ℕ × Task). HasTold (slot_of z.1) (generation_of z.1) (total_of z.1) (slice_index s.words z.0) me (record (looked k w.log w.pending) { hand = None; task = settled_by (slice_index s.words z.0) slot g total; fresh = k.fresh }, me.1))
             (λ j. (sym at_word j, (sym task ∙ has) j)) record {
               turned = record { log = w.log; pending = w.pending; covers = covers p w id k all kept.legal; after = refl };

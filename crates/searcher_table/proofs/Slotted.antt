@@ -169,13 +169,13 @@ module _ {W : Type 0} (U X L : Type 0) (p : Plan W) (s : State) (rel : ℕ → �
   -- ---- a release
 
   -- by the caller c, who pinned the generation g in this slot
-  pub three_released : (c g slot : ℕ) (new : ℕ → ℕ) (news : List ℕ) (a : Task) → c ≢ 0 → c ≤ p.callers → slot < 70 → s.slots slot ≡ Some g → tasks c ≡ Idle → rel g + 1 ≤ s.acquired g
+  pub three_released : (c g slot : ℕ) (ls : List L) (new : ℕ → ℕ) (news : List ℕ) (a : Task) → c ≢ 0 → c ≤ p.callers → slot < 70 → s.slots slot ≡ Some g → tasks c ≡ Idle → rel g + 1 ≤ s.acquired g
       → ((b : ℕ) → s.slots b ≡ Some g → b ≡ slot) → new g ≡ rel g + 1 → ((h : ℕ) → h ≢ g → new h ≡ rel h)
       → slice_index news (slot_word slot) ≡ slice_index words (slot_word slot) + 1 → ((i : ℕ) → i ≢ slot_word slot → slice_index news i ≡ slice_index words i)
       → (is_settled s (tasks 0) g ≡ true → new g ≡ s.acquired g → a ≡ Duty slot g) → (a ≡ Idle) ⊎ ((a ≡ Duty slot g) × (is_settled s (tasks 0) g ≡ true) × (new g ≡ s.acquired g))
-      → Three p (after {U = U} {D = X} {L = L} s (Release c g [])) new (tasks 0) (put c a tasks) news
-  three_released c g slot new news a some few low here idle left one more others up same must is =
-      let t : State = after {U = U} {D = X} {L = L} s (Release c g []) in
+      → Three p (after {U = U} {D = X} {L = L} s (Release c g ls)) new (tasks 0) (put c a tasks) news
+  three_released c g slot ls new news a some few low here idle left one more others up same must is =
+      let t : State = after {U = U} {D = X} {L = L} s (Release c g ls) in
       let undrained : (d b : ℕ) → tasks d ≡ Duty b g → ⊥ = λ d b has.
       (let f : IsDuty p s (tasks 0) rel d b g = subst (λ (n : Task). IsTask p s (tasks 0) rel words d n) has (three.begun d) in let e = f.drained in absurd (omega arith)) in
       let bits : (b : ℕ) → b < 128 → bit_of news b ≡ bit_of words b = λ b few. ap (λ n. bit_at n (b % 64)) (same (mask_word b) (λ z. absurd (omega arith))) in

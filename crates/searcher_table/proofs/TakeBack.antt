@@ -35,8 +35,8 @@ module _ {W U X L : Type 0} where
         back = all_map (IsBack w j) (IsBack (taken w from to) j) (λ o g. record { here = stays o.caller g.here; dealt = g.dealt; mine = g.mine; none = g.none }) k.back f.back;
       }
 
-  pub takes_back : {D : Type 0} (setting : D → W) (docs : D → X) (p : Plan W) (id : ℕ) (k : Known W U X L) (other : ℕ) (o : Known W U X L) → 1 ≤ o.caller → o.announced ≡ None → Joins (Kept setting docs p) id k other o (taken_back k o) spent
-  takes_back setting docs p id k other o low none s kept at apart at' =
+  pub takes_back : {D : Type 0} (setting : D → W) (docs : D → X) (deeds : D → List L) (p : Plan W) (id : ℕ) (k : Known W U X L) (other : ℕ) (o : Known W U X L) → 1 ≤ o.caller → o.announced ≡ None → Joins (Kept setting docs deeds p) id k other o (taken_back k o) spent
+  takes_back setting docs deeds p id k other o low none s kept at apart at' =
       let w = kept.world in
       let v = taken w other id in
       let one : List (Known W U X L) = set s.views id (taken_back k o) in

@@ -18,7 +18,7 @@ use Rattle.searcher_table.specs.declared.board.Task.{Task}
 use Rattle.searcher_table.specs.declared.board.Fresh.{Fresh}
 use Rattle.searcher_table.specs.Words.{call_word, limits}
 use Rattle.searcher_table.specs.Tasks.{IsWarming, Three}
-use Rattle.searcher_table.specs.Doors.{shown_in, Four}
+use Rattle.searcher_table.specs.Doors.{told_in, Four}
 use Rattle.searcher_table.specs.Views.{GoesOn}
 use Rattle.searcher_table.specs.Rule.{World, IsPass, IsHand, IsFresh, IsRegistrar, IsBack, Fits, Two, released, Kept}
 use Rattle.searcher_table.specs.Steps.{looked}
@@ -55,14 +55,14 @@ module _ {W U X L : Type 0} (p : Plan W) (w : World U X L) (id : ℕ) (k : Known
 abbrev pub Holds : {W U X L : Type 0} → Plan W → (ℕ → ℕ) → List (Entry U X L) → ℕ → Fresh → Type 0
 Holds p fresh_at log id f = (fresh_at f.generation ≡ id) × IsWarming (state_of (limits p) log) f
 
-module _ {D W U X L : Type 0} (setting : D → W) (docs : D → X) (p : Plan W) where
-  pub turns : (s : State (Cell D U) (Known W U X L)) (kept : Kept setting docs p s) (id i x : ℕ) (me : Me (Cell D U) (Known W U X L)) (log es : List (Entry U X L)) (task : Task) (fresh : Option Fresh) (fresh_at : ℕ → ℕ) (act : Act (Cell D U))
+module _ {D W U X L : Type 0} (setting : D → W) (docs : D → X) (deeds : D → List L) (p : Plan W) where
+  pub turns : (s : State (Cell D U) (Known W U X L)) (kept : Kept setting docs deeds p s) (id i x : ℕ) (me : Me (Cell D U) (Known W U X L)) (log es : List (Entry U X L)) (task : Task) (fresh : Option Fresh) (fresh_at : ℕ → ℕ) (act : Act (Cell D U))
       → get_elem? s.views id ≡ some me.0 → Acts me.0 → i < 640 → log ≡ kept.world.log ++ es → AllByRecursion (λ e. caller_of e ≡ None) es
       → AllByRecursion (λ e. has_place e ≡ false) es ⊎ (me.0.registrar ≡ true) → Legal (limits p) log → Two p log (set s.words i x)
       → Three p (state_of (limits p) log) (released log) (put me.0.caller task kept.world.tasks 0) (put me.0.caller task kept.world.tasks) (set s.words i x)
-      → Four setting docs p (state_of (limits p) log) (shown_in log) (put me.0.caller task kept.world.tasks 0) kept.world.filling (homes_after s.homes me.1 act)
+      → Four setting docs deeds p (state_of (limits p) log) (told_in log) (put me.0.caller task kept.world.tasks 0) kept.world.filling (homes_after s.homes me.1 act)
       → ((j : ℕ) (f : Fresh) → j ≢ id → IsFresh kept.world j (limits p) f → Holds p fresh_at log j f) → ((f : Fresh) → fresh ≡ Some f → Holds p fresh_at log id f)
-      → Kept setting docs p (stepped s i x id me.1 (record (looked me.0 log kept.world.pending) { hand = None; task = task; fresh = fresh }) act)
+      → Kept setting docs deeds p (stepped s i x id me.1 (record (looked me.0 log kept.world.pending) { hand = None; task = task; fresh = fresh }) act)
   turns s kept id i x me log es task fresh fresh_at act at acts below grown named quiet legal two three four others own =
       let w = kept.world in
       let k = me.0 in

@@ -49,9 +49,9 @@ leaves {W} {U} {X} {L} l w id c here hand =
           record { here = g.here; dealt = g.dealt; mine = g.mine; none = put_else c None w.pending o.caller n ∙ g.none };
     }
 
-module _ {D W U X L : Type 0} (setting : D → W) (docs : D → X) (p : Plan W) where
+module _ {D W U X L : Type 0} (setting : D → W) (docs : D → X) (deeds : D → List L) (p : Plan W) where
   pub withdraws : (slots id : ℕ) (me : Me (Cell D U) (Known W U X L)) (i : ℕ) (h : Hand U) → i ≡ call_word me.0.caller → 1 ≤ me.0.caller → me.0.caller ≤ 64 → me.0.hand ≡ Some h → h.caller ≡ me.0.caller → me.0.back ≡ []
-      → Allows (Kept setting docs p) slots id me i (λ _. 0) (λ _. Withdrawn (step slots i 0 0 maybe.none) me 0)
+      → Allows (Kept setting docs deeds p) slots id me i (λ _. 0) (λ _. Withdrawn (step slots i 0 0 maybe.none) me 0)
   withdraws slots id me i h at_word low few has own bare s kept deep at small =
       let w = kept.world in
       let k = me.0 in

@@ -1,5 +1,5 @@
 -- What is said of the registrar's seat while it claims a slot and fills it.
-use Rattle.std.specs.Prelude.{◌≡◌, ◌≢◌, ℕ, ◌<◌, true, List, length, Some, None}
+use Rattle.std.specs.Prelude.{◌≡◌, ◌≢◌, ℕ, ◌<◌, true, List, [], length, Some, None}
 use Rattle.std.specs.List.{AllByRecursion}
 use Rattle.registry_machine.specs.Legal.{Legal, state_of}
 use Rattle.searcher_table.specs.declared.board.Plan.{Plan}
@@ -39,19 +39,21 @@ module _ {W U X L : Type 0} where
     pub begun : HasBegun p k n (Filled slot count)
     pub filling : n.filling ≡ Some shown
 
-module _ {D W X : Type 0} where
-  -- one door for each caller; they show the table's setting and the same documents
-  pub record AreAlike (setting : D → W) (docs : D → X) (p : Plan W) (doors : List D) : Type 0 where
+module _ {D W X L : Type 0} where
+  -- one door for each caller; they show the table's setting and the same documents, and nothing was done through them
+  pub record AreAlike (setting : D → W) (docs : D → X) (deeds : D → List L) (p : Plan W) (doors : List D) : Type 0 where
     pub count : length doors ≡ p.callers
     pub settings : AllByRecursion (λ d. setting d ≡ p.setting.value) doors
     pub same : (shown : X) × AllByRecursion (λ d. docs d ≡ shown) doors
+    pub unused : AllByRecursion (λ d. deeds d ≡ []) doors
 
 module _ {D W U X L : Type 0} where
-  -- the door shows the table's setting, and the documents that those before it show
-  pub record IsNextDoor (setting : D → W) (docs : D → X) (p : Plan W) (k : Known W U X L) (count : ℕ) (d : D) : Type 0 where
+  -- the door shows the table's setting, and the documents that those before it show, and nothing was done through it
+  pub record IsNextDoor (setting : D → W) (docs : D → X) (deeds : D → List L) (p : Plan W) (k : Known W U X L) (count : ℕ) (d : D) : Type 0 where
     pub few : count < p.callers
     pub setting_is : setting d ≡ p.setting.value
     pub same : count ≢ 0 → k.filling ≡ Some (docs d)
+    pub unused : deeds d ≡ []
 
   -- they are laid into the slot
   pub record HasFilled (docs : D → X) (p : Plan W) (k n : Known W U X L) (slot : ℕ) (doors : List D) : Type 0 where

@@ -1,10 +1,10 @@
 -- Doors: in which cells they lie, and what they show.
-use Rattle.std.specs.Prelude.{◌≡◌, ◌≢◌, ℕ, ◌+◌, ◌-◌, ◌*◌, ◌<◌, ◌≤◌, ◌==◌, if◌then◌else◌, List, length, fold, Option, Some, None}
+use Rattle.std.specs.Prelude.{◌≡◌, ◌≢◌, ℕ, ◌+◌, ◌-◌, ◌*◌, ◌<◌, ◌≤◌, ◌==◌, if◌then◌else◌, List, [], length, fold, Option, Some, None}
 use mathlib.Core.Option.{some}
 use mathlib.Core.Option as maybe
 use lib.ListN.{get_elem?}
 use Rattle.registry_machine.specs.declared.entry.Entry.{Entry}
-use Rattle.registry_machine.specs.declared.entry.Entry.TheVariants.{Open}
+use Rattle.registry_machine.specs.declared.entry.Entry.TheVariants.{Open, Release}
 use Rattle.registry_machine.specs.Machine.{State}
 use Rattle.searcher_table.specs.declared.board.Cell.{Cell}
 use Rattle.searcher_table.specs.declared.board.Cell.TheVariants.{Full}
@@ -37,21 +37,39 @@ module _ {U X L : Type 0} where
   abbrev pub shown_in : List (Entry U X L) → ℕ → Option X
   shown_in log = fold shown_after (λ g. None) log
 
+  -- the deeds that a caller's door to it is left with, by the caller's last release of it
+  abbrev pub left_after : (ℕ → ℕ → List L) → Entry U X L → ℕ → ℕ → List L
+  left_after left (Open c u g slot docs) h d = if h == g then [] else left h d
+  left_after left (Release c g list) h d = if h == g then (if d == c then list else left h d) else left h d
+  left_after left _ h d = left h d
+
+  abbrev pub left_in : List (Entry U X L) → ℕ → ℕ → List L
+  left_in log = fold left_after (λ g c. []) log
+
+  -- both
+  abbrev pub told_in : List (Entry U X L) → ℕ → ℕ → Option X × List L
+  told_in log g c = (shown_in log g, left_in log g c)
+
 module _ {D W X : Type 0} (setting : D → W) (docs : D → X) (p : Plan W) where
   -- the door shows the table's setting and these documents
   pub record IsDoor (shown : Option X) (d : D) : Type 0 where
     pub setting_is : setting d ≡ p.setting.value
     pub shows : Some (docs d) ≡ shown
 
+module _ {D W X L : Type 0} (setting : D → W) (docs : D → X) (deeds : D → List L) (p : Plan W) where
+  -- and it is left with these deeds
+  abbrev pub IsDoorLeft : Option X × List L → D → Type 0
+  IsDoorLeft told d = IsDoor setting docs p told.0 d × (deeds d ≡ told.1)
+
   module _ {U : Type 0} where
     -- such a door lies in the cell
-    abbrev pub IsDoorAt : List (maybe.Option (Cell D U)) → ℕ → Option X → Type 0
-    IsDoorAt homes k shown = (d : D) × (get_elem? homes k ≡ some (some (Full d))) × IsDoor shown d
+    abbrev pub IsDoorAt : List (maybe.Option (Cell D U)) → ℕ → Option X × List L → Type 0
+    IsDoorAt homes k told = (d : D) × (get_elem? homes k ≡ some (some (Full d))) × IsDoorLeft told d
 
     -- Part four: where the slot of a generation has the door of each caller that doesn't pin it, and what else lies at home.
-    pub record Four (s : State) (shown : ℕ → Option X) (own : Task) (filling : Option X) (homes : List (maybe.Option (Cell D U))) : Type 0 where
+    pub record Four (s : State) (told : ℕ → ℕ → Option X × List L) (own : Task) (filling : Option X) (homes : List (maybe.Option (Cell D U))) : Type 0 where
       pub size : length homes ≡ 64 * (limits p).slots
-      pub doors : (slot g c : ℕ) → s.slots slot ≡ Some g → 1 ≤ c → c ≤ p.callers → s.pins c ≢ Some g → IsDoorAt homes (cell_of slot c) (shown g)
+      pub doors : (slot g c : ℕ) → s.slots slot ≡ Some g → 1 ≤ c → c ≤ p.callers → s.pins c ≢ Some g → IsDoorAt homes (cell_of slot c) (told g c)
       pub spare : (slot c : ℕ) → slot < (limits p).slots → s.slots slot ≡ None → 1 ≤ c → c ≤ p.callers → reached own ≢ Some (cell_of slot c)
           → (x : Cell D U) × (get_elem? homes (cell_of slot c) ≡ some (some x))
-      pub filled : (c : ℕ) → 1 ≤ c → c ≤ (laid own).1 → c ≤ p.callers → IsDoorAt homes (cell_of (laid own).0 c) filling
+      pub filled : (c : ℕ) → 1 ≤ c → c ≤ (laid own).1 → c ≤ p.callers → IsDoorAt homes (cell_of (laid own).0 c) (filling, [])

@@ -16,7 +16,7 @@ use Rattle.searcher_table.specs.declared.pin.AcquireRefusal.TheVariants.{NotYet 
 use Rattle.searcher_table.specs.declared.tokens.Sighting.{Sighting}
 use Rattle.searcher_table.specs.Words.{limits}
 use Rattle.searcher_table.specs.Counts.{is_acquire}
-use Rattle.searcher_table.specs.Doors.{shown_in, IsDoor}
+use Rattle.searcher_table.specs.Doors.{shown_in, left_in, IsDoor}
 use Rattle.searcher_table.specs.Views.{StartsWith, GoesOn}
 use Rattle.searcher_table.specs.Passes as pass
 use Rattle.searcher_table.specs.Passes.{mine_of, sighted, sighted_at, IsSamePass}
@@ -82,11 +82,11 @@ module _ {D U W X L : Type 0} where
   IsNotAcquired s t IsNotYet = CameTooEarly s t
   IsNotAcquired s t (Spent made) = IsSpent s t made
 
-  -- the caller has released what it pinned; and where nobody used the generation any more, its slot was freed by one step more
-  pub record HasReleased (pin : Pin D U W X L) (t : Pass D U W X L) : Type 0 where
+  -- the caller has released what it pinned, with what was done through its door; and where nobody used the generation any more, its slot was freed by one step more
+  pub record HasReleased (deeds : D → List L) (pin : Pin D U W X L) (t : Pass D U W X L) : Type 0 where
     pub same : IsPinOf t pin
     pub after : Known W U X L
-    pub entered : HasEntered (plan_of pin) pin.caller pin.place.me.0 after (Release pin.caller pin.generation [])
+    pub entered : HasEntered (plan_of pin) pin.caller pin.place.me.0 after (Release pin.caller pin.generation (deeds pin.door))
     pub ended : (t.place.me.0 ≡ after) ⊎ HasFreed (plan_of pin) pin.caller after t.place.me.0 pin.generation
 
   -- one pin, which has made no step and knows what it knew
@@ -105,6 +105,10 @@ module _ {D U W X L : Type 0} where
   -- the pin's door shows the table's setting, and the documents of the generation's opening
   abbrev pub IsDoorOf : (D → W) → (D → X) → Pin D U W X L → Type 0
   IsDoorOf setting docs pin = IsDoor setting docs (plan_of pin) (shown_in pin.place.me.0.seen pin.generation) pin.door
+
+  -- it is as the caller's last release of the generation left it, or the opening where there was none
+  abbrev pub IsAsLeft : (D → List L) → Pin D U W X L → Type 0
+  IsAsLeft deeds pin = deeds pin.door ≡ left_in pin.place.me.0.seen pin.generation pin.caller
 
   -- the same pin, with this door
   abbrev pub with_door : Pin D U W X L → D → Pin D U W X L

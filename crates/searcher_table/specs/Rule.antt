@@ -18,7 +18,7 @@ use Rattle.searcher_table.specs.declared.board.Task.{Task}
 use Rattle.searcher_table.specs.declared.board.Task.TheVariants.{Idle}
 use Rattle.searcher_table.specs.declared.board.Fresh.{Fresh}
 use Rattle.searcher_table.specs.Tasks.{IsWarming, Three}
-use Rattle.searcher_table.specs.Doors.{shown_in, Four}
+use Rattle.searcher_table.specs.Doors.{told_in, Four}
 use Rattle.searcher_table.specs.Words.{word_count, current_word, packed, call_word, code, HasSizes, limits}
 use Rattle.searcher_table.specs.Counts.{is_acquire, is_not_yet, releases, NamesCaller}
 use Rattle.searcher_table.specs.Views.{StartsWith, HasNoPlaceSince, GoesOn}
@@ -136,11 +136,11 @@ abbrev pub released : {U X L : Type 0} → List (Entry U X L) → ℕ → ℕ
 released log g = count_by (releases g) log
 
 -- There is one legal history.
-pub record Kept {D W U X L : Type 0} (setting : D → W) (docs : D → X) (p : Plan W) (s : State (Cell D U) (Known W U X L)) : Type 0 where
+pub record Kept {D W U X L : Type 0} (setting : D → W) (docs : D → X) (deeds : D → List L) (p : Plan W) (s : State (Cell D U) (Known W U X L)) : Type 0 where
   pub words : length s.words ≡ word_count
   pub world : World U X L
   pub legal : Legal (limits p) world.log
   pub one : One p world s.words s.views
   pub two : Two p world.log s.words
   pub three : Three p (state_of (limits p) world.log) (released world.log) (world.tasks 0) world.tasks s.words
-  pub four : Four setting docs p (state_of (limits p) world.log) (shown_in world.log) (world.tasks 0) world.filling s.homes
+  pub four : Four setting docs deeds p (state_of (limits p) world.log) (told_in world.log) (world.tasks 0) world.filling s.homes

@@ -21,7 +21,7 @@ use Rattle.searcher_table.specs.declared.board.Task.{Task}
 use Rattle.searcher_table.specs.declared.board.Task.TheVariants.{Idle, Found, Claimed, Filled, Filling, Unsettled, Duty}
 use Rattle.searcher_table.specs.declared.board.Fresh.{Fresh}
 use Rattle.searcher_table.specs.Words.{slot_word, limits}
-use Rattle.searcher_table.specs.Doors.{cell_of, shown_in, IsDoor}
+use Rattle.searcher_table.specs.Doors.{cell_of, told_in, IsDoorLeft}
 use Rattle.searcher_table.specs.Counts.{releases, pinned}
 use Rattle.searcher_table.specs.Views.{StartsWith, HasNoPlaceSince, GoesOn}
 
@@ -209,23 +209,23 @@ module _ {W U X L : Type 0} where
     abbrev pub HasOut : ℕ → Cell D U → Me (Cell D U) (Known W U X L) → Me (Cell D U) (Known W U X L) → Type 0
     HasOut cell x before new = new.1 ≡ (cell, x) ∷ before.1
 
-    -- and that is a door that shows these documents
-    pub record HasDoor (setting : D → W) (docs : D → X) (cell : ℕ) (shown : Option X) (before new : Me (Cell D U) (Known W U X L)) : Type 0 where
+    -- and that is a door that shows these documents, and is left with these deeds
+    pub record HasDoor (setting : D → W) (docs : D → X) (deeds : D → List L) (cell : ℕ) (told : Option X × List L) (before new : Me (Cell D U) (Known W U X L)) : Type 0 where
       pub door : D
       pub out : HasOut cell (Full door) before new
-      pub is_door : (p : Plan W) → before.0.plan ≡ Some p → IsDoor setting docs p shown door
+      pub is_door : (p : Plan W) → before.0.plan ≡ Some p → IsDoorLeft setting docs deeds p told door
 
     -- the current word counts one acquire more, and where it had a generation, the caller has its door to it
-    pub record Acquired (setting : D → W) (docs : D → X) (step : Step (Cell D U)) (before : Me (Cell D U) (Known W U X L)) (found : ℕ) (new : Me (Cell D U) (Known W U X L)) : Type 0 where
+    pub record Acquired (setting : D → W) (docs : D → X) (deeds : D → List L) (step : Step (Cell D U)) (before : Me (Cell D U) (Known W U X L)) (found : ℕ) (new : Me (Cell D U) (Known W U X L)) : Type 0 where
       pub made : HasMade (acquire_of before.0.caller found) before.0.task before (new.0, before.1)
       pub tells : (p : Plan W) → before.0.plan ≡ Some p → TellsCurrent (limits p) made.entered.log found
       pub early : found / 549755813888 ≡ 0 → new.1 ≡ before.1
-      pub lent : found / 549755813888 ≢ 0 → HasDoor setting docs (cell_of (found / 4294967296 % 128) before.0.caller) (shown_in new.0.seen (found / 549755813888)) before new
+      pub lent : found / 549755813888 ≢ 0 → HasDoor setting docs deeds (cell_of (found / 4294967296 % 128) before.0.caller) (told_in new.0.seen (found / 549755813888) before.0.caller) before new
 
-    -- the generation that the caller pinned is released, its door is at home, and its slot is to be freed where the word says so
-    abbrev pub Released : Step (Cell D U) → Me (Cell D U) (Known W U X L) → ℕ → Me (Cell D U) (Known W U X L) → Type 0
-    Released step before found after = (slot g : ℕ) → step.word ≡ slot_word slot → pinned before.0.caller before.0.mine ≡ Some g
-        → HasMade (Release before.0.caller g []) (duty_by found slot g) before (after.0, before.1) × (after.1 ≡ rest before.1)
+    -- the generation that the caller pinned is released with its door's deeds, the door is at home, and its slot is to be freed where the word says so
+    abbrev pub Released : (D → List L) → Step (Cell D U) → Me (Cell D U) (Known W U X L) → ℕ → Me (Cell D U) (Known W U X L) → Type 0
+    Released deeds step before found after = (slot g : ℕ) (d : D) → step.word ≡ slot_word slot → pinned before.0.caller before.0.mine ≡ Some g → before.1 ≡ (cell_of slot before.0.caller, Full d) ∷ []
+        → HasMade (Release before.0.caller g (deeds d)) (duty_by found slot g) before (after.0, before.1) × (after.1 ≡ rest before.1)
 
     -- the slot is free again
     abbrev pub Freed : Step (Cell D U) → Me (Cell D U) (Known W U X L) → ℕ → Me (Cell D U) (Known W U X L) → Type 0

@@ -220,7 +220,7 @@ impl<D: Shown, U: Drop> TableRule<
 > for Registry<D, U> {
     ghost use Rattle.searcher_table.specs.Rule.{Kept, opened};
 
-    ghost holds = { Kept D.setting D.docs };
+    ghost holds = { Kept D.setting D.docs D.list };
 
     ghost first = { opened };
 }

@@ -27,7 +27,7 @@ fn lay<D: Shown, U: Drop>(
     requires below { slot < 70 }
     requires few { (arc_value table.now).shared.key.callers ≤ 64 }
     requires bare { place.old.me.1 ≡ [] }
-    requires next { IsNextDoor D.setting D.docs (arc_value table.now).shared.key place.old.me.0 count door }
+    requires next { IsNextDoor D.setting D.docs D.list (arc_value table.now).shared.key place.old.me.0 count door }
     ensures table { place.new.table_id ≡ place.old.table_id }
     ensures laid { HasLaid (arc_value table.now).shared.key place.old.me.0 place.new.me.0 slot (count + 1) (D.docs door) }
     ensures bare { place.new.me.1 ≡ [] }
@@ -54,7 +54,7 @@ pub(crate) fn fill<D: Shown, U: Drop>(
     requires some { 1 ≤ (arc_value table.now).shared.key.callers }
     requires few { (arc_value table.now).shared.key.callers ≤ 64 }
     requires bare { place.old.me.1 ≡ [] }
-    requires doors { AreAlike D.setting D.docs (arc_value table.now).shared.key doors.items }
+    requires doors { AreAlike D.setting D.docs D.list (arc_value table.now).shared.key doors.items }
     ensures table { place.new.table_id ≡ place.old.table_id }
     ensures filled { HasFilled D.docs (arc_value table.now).shared.key place.old.me.0 place.new.me.0 slot doors.items }
     ensures bare { place.new.me.1 ≡ [] }

@@ -57,11 +57,11 @@ pub enum AcquireRefusal {
 }
 
 impl<D: Shown, U: Drop> Pass<D, U> {
-    ghost use Rattle.std.specs.Prelude.{IfOk, IfErr};
-    ghost use Rattle.searcher_table.specs.Pins.{HasAcquired, IsNotAcquired, IsDoorOf};
+    ghost use Rattle.std.specs.Prelude.{◌<◌, IfOk, IfErr};
+    ghost use Rattle.searcher_table.specs.Pins.{HasAcquired, CameTooEarly, IsNotAcquired, IsDoorOf, IsAsLeft};
 
-    /// Acquires what is current, with the caller's door to it. It is one addition to the current word, takes no memory and
-    /// doesn't wait.
+    /// Acquires what is current, with the caller's door to it, which is as the caller's last release of it left it, or the
+    /// opening. It is one addition to the current word, takes no memory and doesn't wait.
     ///
     /// # Errors
     /// The pass comes back with an [`AcquireRefusal`]: `Spent` exactly where it has acquired as often as it may, and then no
@@ -69,12 +69,27 @@ impl<D: Shown, U: Drop> Pass<D, U> {
     pub fn acquire(self) -> Result<Pin<D, U>, (Pass<D, U>, AcquireRefusal)>
         ensures acquired { IfOk result (λ pin. HasAcquired self pin) }
         ensures door { IfOk result (λ pin. IsDoorOf D.setting D.docs pin) }
+        ensures left { IfOk result (λ pin. IsAsLeft D.list pin) }
         ensures refused { IfErr result (λ r. IsNotAcquired self r.0 r.1) }
     {
         if self.made >= self.budget {
             let made = self.made;
             return Err((self, AcquireRefusal::Spent { made }));
         }
+        match self.acquire_once() {
+            Ok(pin) => Ok(pin),
+            Err(pass) => Err((pass, AcquireRefusal::NotYet)),
+        }
+    }
+
+    // Acquires what is current. The pass comes back where nothing is.
+    fn acquire_once(self) -> Result<Pin<D, U>, Pass<D, U>>
+        requires { self.made < self.budget }
+        ensures acquired { IfOk result (λ pin. HasAcquired self pin) }
+        ensures door { IfOk result (λ pin. IsDoorOf D.setting D.docs pin) }
+        ensures left { IfOk result (λ pin. IsAsLeft D.list pin) }
+        ensures early { IfErr result (λ pass. CameTooEarly self pass) }
+    {
         let Pass {
             caller,
             made,
@@ -86,14 +101,13 @@ impl<D: Shown, U: Drop> Pass<D, U> {
         let made = made + 1;
         let generation = (word / GENERATION) as u32;
         if generation == 0 {
-            let pass = Pass {
+            return Err(Pass {
                 caller,
                 made,
                 budget,
                 place,
                 table,
-            };
-            return Err((pass, AcquireRefusal::NotYet));
+            });
         }
         let slot = (word / SLOT % 128) as u32;
         let cell = CELLS * slot as usize + caller as usize - 1;
@@ -156,11 +170,12 @@ impl<D: Shown, U: Drop> Pin<D, U> {
         Sighting { place }
     }
 
-    /// Lets the generation go, and puts the door back. It is one addition to the slot's word and, where nobody uses the
-    /// generation any more, one step more, which frees its slot. It takes no memory and doesn't wait.
+    /// Lets the generation go, and puts the door back, whose deeds the entry tells. It is one addition to the slot's word
+    /// and, where nobody uses the generation any more, one step more, which frees its slot. It takes no memory and doesn't
+    /// wait.
     pub fn release(self) -> Pass<D, U>
         requires door { IsDoorOf D.setting D.docs self }
-        ensures { HasReleased self result }
+        ensures { HasReleased D.list self result }
     {
         let Pin {
             caller,
@@ -187,9 +202,8 @@ impl<D: Shown, U: Drop> Pin<D, U> {
             };
         }
         let mask = MASKS + 8 * (slot as usize / 64);
-        table
-            .shared
-            .fetch_or::<Free>(&mut place, mask, 1 << (slot % 64));
+        let bit = 1 << (slot % 64);
+        table.shared.fetch_or::<Free>(&mut place, mask, bit);
         Pass {
             caller,
             made,

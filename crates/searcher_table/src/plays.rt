@@ -52,14 +52,14 @@ impl<D: Shown, U> Play<Cell<D, U>, Known<D::Setting, U, D::Docs, D::Deed>> for O
 pub(crate) struct Acquire;
 
 impl<D: Shown, U> Play<Cell<D, U>, Known<D::Setting, U, D::Docs, D::Deed>> for Acquire {
-    ghost then = { Acquired D.setting D.docs };
+    ghost then = { Acquired D.setting D.docs D.list };
 }
 
 // The word of a slot counts one release more, and the caller has its entry.
 pub(crate) struct Release;
 
 impl<D: Shown, U> Play<Cell<D, U>, Known<D::Setting, U, D::Docs, D::Deed>> for Release {
-    ghost then = { Released };
+    ghost then = { Released D.list };
 }
 
 // The bit of a slot is 1 again, whose generation nobody uses any more.

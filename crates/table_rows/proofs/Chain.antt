@@ -64,7 +64,7 @@ module _ {D U W X L : Type 0} where
       l.calls
 
   -- an acquire and its release are two entries more, whether or not the release was the last one
-  pub two_more : (s : Pass D U W X L) (pin : Pin D U W X L) (t : Pass D U W X L) → announced_of s ≡ None → HasAcquired s pin → HasReleased pin t → HasNothingOut s t × HasHeld s t pin.generation pin.ticket
+  pub two_more : (s : Pass D U W X L) (pin : Pin D U W X L) (t : Pass D U W X L) → announced_of s ≡ None → HasAcquired s pin → HasReleased (λ _. []) pin t → HasNothingOut s t × HasHeld s t pin.generation pin.ticket
   two_more s pin t none got gone =
       let a = got.entered in
       let b = gone.entered in

@@ -17,7 +17,7 @@ fetch_and-requires g c =
     let words : table.table_id.words ≡ 1168 = ap (λ z. z.words) (sym same) ∙ r.sized in (
       f.table ∙ same,
       omega arith,
-      takes g.D.Shown.setting g.D.Shown.docs table.key table.table_id.slots c.find-slot.new.place.id c.find-slot.new.place.me (24 + 8 * (c.find-slot.result / 64)) (bit_not w64 (1 * 2 ^ (c.find-slot.result % 64) % 2 ^ 64)) c.find-slot.result _ refl low f.begun.opener.role f.begun.opener.task (λ words long low n. refl),
+      takes g.D.Shown.setting g.D.Shown.docs g.D.Shown.list table.key table.table_id.slots c.find-slot.new.place.id c.find-slot.new.place.me (24 + 8 * (c.find-slot.result / 64)) (bit_not w64 (1 * 2 ^ (c.find-slot.result % 64) % 2 ^ 64)) c.find-slot.result _ refl low f.begun.opener.role f.begun.opener.task (λ words long low n. refl),
     )
 
 pub store-requires : goal.store-requires
@@ -32,7 +32,7 @@ store-requires g c =
     let words : table.table_id.words ≡ 1168 = ap (λ z. z.words) (sym same) ∙ r.sized in (
       e.0 ∙ f.table ∙ same,
       omega arith,
-      wipes g.D.Shown.setting g.D.Shown.docs table.key table.table_id.slots c.fetch_and.new.seat.id c.fetch_and.new.seat.me (64 + 8 * c.find-slot.result) c.find-slot.result refl b.opener.role b.opener.task,
+      wipes g.D.Shown.setting g.D.Shown.docs g.D.Shown.list table.key table.table_id.slots c.fetch_and.new.seat.id c.fetch_and.new.seat.me (64 + 8 * c.find-slot.result) c.find-slot.result refl b.opener.role b.opener.task,
     )
 
 pub returns-clause-id : goal.returns-clause-id

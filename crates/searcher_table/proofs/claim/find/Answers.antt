@@ -16,7 +16,7 @@ load-word-requires g c =
     let words : table.table_id.words ≡ 1168 = ap (λ z. z.words) (sym same) ∙ r.sized in (
       same,
       omega arith,
-      scans g.D.Shown.setting g.D.Shown.docs table.key table.table_id.slots place.id place.me 24 refl r.opener.role r.opener.task (subst (λ t. length (state_of (limits t.shared.key) place.me.0.seen).warming < t.shared.key.max_warming) (sym d) r.room),
+      scans g.D.Shown.setting g.D.Shown.docs g.D.Shown.list table.key table.table_id.slots place.id place.me 24 refl r.opener.role r.opener.task (subst (λ t. length (state_of (limits t.shared.key) place.me.0.seen).warming < t.shared.key.max_warming) (sym d) r.room),
     )
 
 pub load-word-requires-2 : goal.load-word-requires-2
@@ -31,5 +31,5 @@ load-word-requires-2 g c =
     let words : table.table_id.words ≡ 1168 = ap (λ z. z.words) (sym same) ∙ r.sized in (
       e.0 ∙ same,
       omega arith,
-      scans_on g.D.Shown.setting g.D.Shown.docs table.key table.table_id.slots c.load-word.new.seat.id c.load-word.new.seat.me 32 x.slot refl b.opener.role b.opener.task (x.other c.if-word-ne0.false),
+      scans_on g.D.Shown.setting g.D.Shown.docs g.D.Shown.list table.key table.table_id.slots c.load-word.new.seat.id c.load-word.new.seat.me 32 x.slot refl b.opener.role b.opener.task (x.other c.if-word-ne0.false),
     )

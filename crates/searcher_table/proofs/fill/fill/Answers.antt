@@ -1,4 +1,4 @@
-use Rattle.std.proofs.Common.{◌≡◌, ◌+◌, ◌∙◌, ◌∷◌, length, Some, refl, sym, ap, subst, arith}
+use Rattle.std.proofs.Common.{◌≡◌, ◌+◌, ◌∙◌, [], length, Some, refl, sym, ap, subst, arith}
 use Rattle.std.specs.Arc.{arc_value}
 use Rattle.std.specs.List.{AllByRecursion}
 use Rattle.searcher_table.specs.declared.board.Task.TheVariants.{Filled}
@@ -16,6 +16,7 @@ loop-door-init g c =
       begun = record { opener = r.opener; seen = quiet_here c.args.place.now.me.0.seen; legal = r.legal; back = refl; hand = r.hand };
       left = (let a = ap length items in let n = r.doors.count in omega arith);
       settings = subst (λ ds. AllByRecursion (λ e. g.D.Shown.setting e ≡ (arc_value c.args.table.now).shared.key.setting.value) ds) items r.doors.settings;
+      unused = subst (λ ds. AllByRecursion (λ e. g.D.Shown.list e ≡ []) ds) items r.doors.unused;
       shown = (r.doors.same.0, r.doors.same.1, subst (λ ds. AllByRecursion (λ e. g.D.Shown.docs e ≡ r.doors.same.0) ds) items r.doors.same.1, λ n. absurd (n refl));
     }
 
@@ -26,6 +27,7 @@ loop-door-preserved g c =
     let items = c.in-Some.ensures.steps.0 in
     let laid = c.lay.ensures.laid in
     let settings = subst (λ ds. AllByRecursion (λ e. g.D.Shown.setting e ≡ (arc_value c.args.table.now).shared.key.setting.value) ds) items i.settings in
+    let unused = subst (λ ds. AllByRecursion (λ e. g.D.Shown.list e ≡ []) ds) items i.unused in
     let shown = subst (λ ds. AllByRecursion (λ e. g.D.Shown.docs e ≡ i.shown.0) ds) items i.shown.2 in
     record {
       table = c.lay.ensures.table ∙ i.table;
@@ -33,5 +35,6 @@ loop-door-preserved g c =
       begun = begun_on _ c.args.place.now.me.0 c.loop-door.place.me.0 c.lay.new.place.me.0 (Filled c.args.slot c.loop-door.count) (Filled c.args.slot (c.loop-door.count + 1)) i.begun laid.begun;
       left = (let a = ap length items in let n = i.left in omega arith);
       settings = settings.1;
+      unused = unused.1;
       shown = (i.shown.0, i.shown.1, shown.1, λ _. laid.filling ∙ ap (λ x. Some x) shown.0);
     }

@@ -1,6 +1,4 @@
-use Rattle.std.proofs.Common.{◌≡◌, ◌+◌, ◌*◌, ◌∙◌, [], ◌∷◌, sym, ap, refl, arith}
-use Rattle.searcher_table.specs.declared.board.Task.TheVariants.{Filled, Filling}
-use Rattle.searcher_table.specs.declared.board.Cell.TheVariants.{Full}
+use Rattle.std.proofs.Common.{◌≡◌, ◌+◌, ◌*◌, ◌∙◌, sym, ap, refl, arith}
 use Rattle.searcher_table.specs.Doors.{cell_of}
 use Rattle.searcher_table.proofs.Filling.{reaches, reached_by, met_is, lays, laid_by, has_out}
 use Rattle.searcher_table.proofs.fill.lay.Goals as goal
@@ -15,7 +13,7 @@ load-requires g c =
     let callers = ap (λ t. t.shared.key.callers) c.deref.ensures in (
       same,
       omega arith,
-      reaches g.D.Shown.setting g.D.Shown.docs table.key table.table_id.slots c.args.place.now.id c.args.place.now.me 16 c.args.slot c.args.count refl r.opener.role r.opener.task (omega arith),
+      reaches g.D.Shown.setting g.D.Shown.docs g.D.Shown.list table.key table.table_id.slots c.args.place.now.id c.args.place.now.me 16 c.args.slot c.args.count refl r.opener.role r.opener.task (omega arith),
     )
 
 pub exchange-requires : goal.exchange-requires
@@ -47,8 +45,8 @@ load-requires-2 g c =
     let callers = ap (λ t. t.shared.key.callers) c.deref-3.ensures in (
       c.exchange.ensures.0 ∙ c.load.ensures.0 ∙ same,
       omega arith,
-      lays g.D.Shown.setting g.D.Shown.docs table.key table.table_id.slots c.exchange.new.seat.id met 16 c.args.slot c.args.count d refl (ap (λ m. m.0.registrar) is ∙ first.opener.role) (ap (λ m. m.0.task) is ∙ first.opener.task) (omega arith)
-          (ap (λ m. m.1) is) (r.next.setting_is ∙ ap (λ t. t.shared.key.setting.value) (sym c.deref-3.ensures)) (λ z. ap (λ m. m.0.filling) is ∙ ap (λ m. m.0.filling) x.turned.after ∙ r.next.same z),
+      lays g.D.Shown.setting g.D.Shown.docs g.D.Shown.list table.key table.table_id.slots c.exchange.new.seat.id met 16 c.args.slot c.args.count d refl (ap (λ m. m.0.registrar) is ∙ first.opener.role) (ap (λ m. m.0.task) is ∙ first.opener.task) (omega arith)
+          (ap (λ m. m.1) is) (r.next.setting_is ∙ ap (λ t. t.shared.key.setting.value) (sym c.deref-3.ensures)) r.next.unused (λ z. ap (λ m. m.0.filling) is ∙ ap (λ m. m.0.filling) x.turned.after ∙ r.next.same z),
     )
 
 pub returns-clause-laid : goal.returns-clause-laid

@@ -15,7 +15,7 @@ fetch_add-found-requires g c =
     let words : table.table_id.words ≡ 1168 = ap (λ z. z.words) (sym same) ∙ r.sized in (
       same,
       omega arith,
-      settles g.D.Shown.setting g.D.Shown.docs table.key table.table_id.slots place.id place.me (64 + 8 * c.args.slot) ((c.from.result + 1) * 4294967296) c.args.slot c.args.generation c.args.total refl (ap (λ n. (n + 1) * 4294967296) c.from.ensures) r.begun.role r.begun.task,
+      settles g.D.Shown.setting g.D.Shown.docs g.D.Shown.list table.key table.table_id.slots place.id place.me (64 + 8 * c.args.slot) ((c.from.result + 1) * 4294967296) c.args.slot c.args.generation c.args.total refl (ap (λ n. (n + 1) * 4294967296) c.from.ensures) r.begun.role r.begun.task,
     )
 
 pub returns-then-found-from-clause-id : goal.returns-then-found-from-clause-id
@@ -39,7 +39,7 @@ fetch_or-requires g c =
     let words : table.table_id.words ≡ 1168 = ap (λ z. z.words) (sym same) ∙ r.sized in (
       c.fetch_add-found.ensures.0 ∙ same,
       omega arith,
-      frees g.D.Shown.setting g.D.Shown.docs table.key table.table_id.slots mid.id mid.me (24 + 8 * (c.args.slot / 64)) (1 * 2 ^ (c.args.slot % 64) % 2 ^ 64) c.args.slot c.args.generation _ refl low (inr duty.role) duty.task (λ words long low m. refl),
+      frees g.D.Shown.setting g.D.Shown.docs g.D.Shown.list table.key table.table_id.slots mid.id mid.me (24 + 8 * (c.args.slot / 64)) (1 * 2 ^ (c.args.slot % 64) % 2 ^ 64) c.args.slot c.args.generation _ refl low (inr duty.role) duty.task (λ words long low m. refl),
     )
 
 pub returns-clause-id : goal.returns-clause-id

@@ -22,7 +22,7 @@ compare_exchange_with-requires g c =
     let w = c.word-word.ensures in (
       same,
       omega arith,
-      announces g.D.Shown.setting g.D.Shown.docs table.key table.table_id.slots pass.place.id pass.place.me c.word-word.result c.code-code.result asked
+      announces g.D.Shown.setting g.D.Shown.docs g.D.Shown.list table.key table.table_id.slots pass.place.id pass.place.me c.word-word.result c.code-code.result asked
           (omega arith) (omega arith) (omega arith) c.code-code.ensures c.requires pass.none_back,
     )
 
@@ -35,7 +35,7 @@ split_seat-place-requires g c =
     let words : table.table_id.words ≡ 1168 = ap (λ z. z.words) (sym same) ∙ pass.sized in (
       c.compare_exchange_with.ensures.0 ∙ same,
       omega arith,
-      splits g.D.Shown.setting g.D.Shown.docs table.key c.compare_exchange_with.new.seat.id c.compare_exchange_with.new.seat.me.0,
+      splits g.D.Shown.setting g.D.Shown.docs g.D.Shown.list table.key c.compare_exchange_with.new.seat.id c.compare_exchange_with.new.seat.me.0,
     )
 
 -- src/pass.rt:64:13

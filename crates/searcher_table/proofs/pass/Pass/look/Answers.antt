@@ -12,7 +12,7 @@ load-requires g c =
     let words : table.table_id.words ≡ 1168 = ap (λ z. z.words) (sym same) ∙ pass.sized in (
       same,
       (let w = c.word-word.ensures in omega arith),
-      looks g.D.Shown.setting g.D.Shown.docs table.key table.table_id.slots pass.place.id pass.place.me c.word-word.result,
+      looks g.D.Shown.setting g.D.Shown.docs g.D.Shown.list table.key table.table_id.slots pass.place.id pass.place.me c.word-word.result,
     )
 
 pub returns : goal.returns

@@ -18,7 +18,7 @@ join_seat-requires g c =
       c.requires ∙ same,
       note.bare,
       omega arith,
-      joins g.D.Shown.setting g.D.Shown.docs table.key pass.place.id pass.place.me.0 note.place.id note.place.me.0,
+      joins g.D.Shown.setting g.D.Shown.docs g.D.Shown.list table.key pass.place.id pass.place.me.0 note.place.id note.place.me.0,
     )
 
 pub load-requires : goal.load-requires
@@ -29,7 +29,7 @@ load-requires g c =
     let words : table.table_id.words ≡ 1168 = ap (λ z. z.words) (sym same) ∙ pass.sized in (
       c.join_seat.ensures.0 ∙ same,
       (let w = c.word-word.ensures in omega arith),
-      looks g.D.Shown.setting g.D.Shown.docs table.key table.table_id.slots c.join_seat.new.seat.id c.join_seat.new.seat.me c.word-word.result,
+      looks g.D.Shown.setting g.D.Shown.docs g.D.Shown.list table.key table.table_id.slots c.join_seat.new.seat.id c.join_seat.new.seat.me c.word-word.result,
     )
 
 pub returns : goal.returns

@@ -18,7 +18,7 @@ join_seat-requires g c =
       c.requires.table ∙ same,
       call.bare,
       omega arith,
-      joins g.D.Shown.setting g.D.Shown.docs table.key pass.place.id pass.place.me.0 call.place.id call.place.me.0,
+      joins g.D.Shown.setting g.D.Shown.docs g.D.Shown.list table.key pass.place.id pass.place.me.0 call.place.id call.place.me.0,
     )
 
 pub store-requires : goal.store-requires
@@ -36,7 +36,7 @@ store-requires g c =
     let w = c.word-word.ensures in (
       e.0 ∙ same,
       omega arith,
-      withdraws g.D.Shown.setting g.D.Shown.docs table.key table.table_id.slots c.join_seat.new.seat.id me c.word-word.result hand
+      withdraws g.D.Shown.setting g.D.Shown.docs g.D.Shown.list table.key table.table_id.slots c.join_seat.new.seat.id me c.word-word.result hand
           (omega arith) (omega arith) (omega arith) (ap (λ m. m.0.hand) e.2 ∙ call.in_hand) (c.requires.caller ∙ sym caller) (ap (λ m. m.0.back) e.2 ∙ pass.none_back),
     )
 

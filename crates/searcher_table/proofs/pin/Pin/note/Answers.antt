@@ -10,5 +10,5 @@ split_seat-place-requires g c =
     let words : table.table_id.words ≡ 1168 = ap (λ z. z.words) (sym same) ∙ pin.sized in (
       same,
       omega arith,
-      splits g.D.Shown.setting g.D.Shown.docs table.key pin.place.id pin.place.me.0,
+      splits g.D.Shown.setting g.D.Shown.docs g.D.Shown.list table.key pin.place.id pin.place.me.0,
     )

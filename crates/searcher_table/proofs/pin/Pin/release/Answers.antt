@@ -36,7 +36,7 @@ fetch_add-found-requires g c =
     let b = pin.below in (
       c.exchange.ensures.0 ∙ same,
       omega arith,
-      releases_slot g.D.Shown.setting g.D.Shown.docs table.key table.table_id.slots c.exchange.new.seat.id met (64 + 8 * pin.slot) pin.slot pin.generation refl pin.below (omega arith) (omega arith) (ap (λ m. m.0.back) is ∙ pin.none_back)
+      releases_slot g.D.Shown.setting g.D.Shown.docs g.D.Shown.list table.key table.table_id.slots c.exchange.new.seat.id met (64 + 8 * pin.slot) pin.slot pin.generation refl pin.below (omega arith) (omega arith) (ap (λ m. m.0.back) is ∙ pin.none_back)
           (ap (λ m. pinned m.0.caller m.0.mine) is ∙ ap (λ d. pinned d pin.place.me.0.mine) pin.numbered ∙ pin.holds) (ap (λ m. m.0.task) is ∙ pin.idle)
           (ap (λ m. (state_of (limits table.key) m.0.seen).slots pin.slot) is ∙ ap (λ t. (state_of (limits t.shared.key) pin.place.me.0.seen).slots pin.slot) c.deref-2.ensures ∙ pin.opened) pin.door
           (ap (λ m. m.1) is ∙ (λ i. (cell_of pin.slot (sym numbered i), Full pin.door) ∷ []))
@@ -51,8 +51,8 @@ invariant_of-result g c =
     let new = c.fetch_add-found.new.seat.me in
     let n = c.fetch_add-found.result in
     let is = out_is met pin.place.me [] (cell_of pin.slot pin.caller) (cell_of pin.slot pin.caller) Empty (Full pin.door) pin.out refl c.exchange.ensures.3 in
-    let made = e.2 pin.slot pin.generation refl (ap (λ m. pinned m.0.caller m.0.mine) is ∙ ap (λ d. pinned d pin.place.me.0.mine) pin.numbered ∙ pin.holds) in
-    let k = released_by (plan_of pin) pin.caller pin.generation pin.slot n pin.place.me.0 ((cell_of pin.slot pin.caller, Full pin.door) ∷ []) met new is pin.told pin.numbered pin.ranged.0 made.0 in
+    let made = e.2 pin.slot pin.generation pin.door refl (ap (λ m. pinned m.0.caller m.0.mine) is ∙ ap (λ d. pinned d pin.place.me.0.mine) pin.numbered ∙ pin.holds) (ap (λ m. m.1) is ∙ (λ i. (cell_of pin.slot (sym (ap (λ m. m.0.caller) is ∙ pin.numbered) i), Full pin.door) ∷ [])) in
+    let k = released_by (plan_of pin) pin.caller pin.generation pin.slot n (g.D.Shown.list pin.door) pin.place.me.0 ((cell_of pin.slot pin.caller, Full pin.door) ∷ []) met new is pin.told pin.numbered pin.ranged.0 made.0 in
     record {
       at_table = e.0 ∙ c.exchange.ensures.0 ∙ pin.at_table;
       sized = ap (λ z. z.words) (e.0 ∙ c.exchange.ensures.0) ∙ pin.sized;
@@ -78,8 +78,8 @@ returns-then-found g c =
     let new = c.fetch_add-found.new.seat.me in
     let n = c.fetch_add-found.result in
     let is = out_is met pin.place.me [] (cell_of pin.slot pin.caller) (cell_of pin.slot pin.caller) Empty (Full pin.door) pin.out refl c.exchange.ensures.3 in
-    let made = e.2 pin.slot pin.generation refl (ap (λ m. pinned m.0.caller m.0.mine) is ∙ ap (λ d. pinned d pin.place.me.0.mine) pin.numbered ∙ pin.holds) in
-    let k = released_by (plan_of pin) pin.caller pin.generation pin.slot n pin.place.me.0 ((cell_of pin.slot pin.caller, Full pin.door) ∷ []) met new is pin.told pin.numbered pin.ranged.0 made.0 in
+    let made = e.2 pin.slot pin.generation pin.door refl (ap (λ m. pinned m.0.caller m.0.mine) is ∙ ap (λ d. pinned d pin.place.me.0.mine) pin.numbered ∙ pin.holds) (ap (λ m. m.1) is ∙ (λ i. (cell_of pin.slot (sym (ap (λ m. m.0.caller) is ∙ pin.numbered) i), Full pin.door) ∷ [])) in
+    let k = released_by (plan_of pin) pin.caller pin.generation pin.slot n (g.D.Shown.list pin.door) pin.place.me.0 ((cell_of pin.slot pin.caller, Full pin.door) ∷ []) met new is pin.told pin.numbered pin.ranged.0 made.0 in
     record {
       same = record { table = sym (e.0 ∙ c.exchange.ensures.0); plan = refl; caller = refl };
       after = new.0;
@@ -99,13 +99,13 @@ fetch_or-requires g c =
     let b = pin.below in
     let met = c.exchange.new.seat.me in
     let is = out_is met pin.place.me [] (cell_of pin.slot pin.caller) (cell_of pin.slot pin.caller) Empty (Full pin.door) pin.out refl c.exchange.ensures.3 in
-    let made = e.2 pin.slot pin.generation refl (ap (λ m. pinned m.0.caller m.0.mine) is ∙ ap (λ d. pinned d pin.place.me.0.mine) pin.numbered ∙ pin.holds) in
-    let k = released_by (plan_of pin) pin.caller pin.generation pin.slot n pin.place.me.0 ((cell_of pin.slot pin.caller, Full pin.door) ∷ []) met new is pin.told pin.numbered pin.ranged.0 made.0 in
+    let made = e.2 pin.slot pin.generation pin.door refl (ap (λ m. pinned m.0.caller m.0.mine) is ∙ ap (λ d. pinned d pin.place.me.0.mine) pin.numbered ∙ pin.holds) (ap (λ m. m.1) is ∙ (λ i. (cell_of pin.slot (sym (ap (λ m. m.0.caller) is ∙ pin.numbered) i), Full pin.door) ∷ [])) in
+    let k = released_by (plan_of pin) pin.caller pin.generation pin.slot n (g.D.Shown.list pin.door) pin.place.me.0 ((cell_of pin.slot pin.caller, Full pin.door) ∷ []) met new is pin.told pin.numbered pin.ranged.0 made.0 in
     let r = pin.ranged in
     let numbered = k.caller ∙ pin.numbered in (
       e.0 ∙ c.exchange.ensures.0 ∙ same,
       omega arith,
-      frees g.D.Shown.setting g.D.Shown.docs table.key table.table_id.slots c.fetch_add-found.new.seat.id new (24 + 8 * (pin.slot / 64)) (1 * 2 ^ (pin.slot % 64) % 2 ^ 64) pin.slot pin.generation _ refl (omega arith) (inl (omega arith))
+      frees g.D.Shown.setting g.D.Shown.docs g.D.Shown.list table.key table.table_id.slots c.fetch_add-found.new.seat.id new (24 + 8 * (pin.slot / 64)) (1 * 2 ^ (pin.slot % 64) % 2 ^ 64) pin.slot pin.generation _ refl (omega arith) (inl (omega arith))
           (k.task_is ∙ drains n pin.slot pin.generation c.if-found.false) (λ words long low m. refl),
     )
 
@@ -118,8 +118,8 @@ invariant_of-result-2 g c =
     let mid = c.fetch_add-found.new.seat.me in
     let n = c.fetch_add-found.result in
     let is = out_is met pin.place.me [] (cell_of pin.slot pin.caller) (cell_of pin.slot pin.caller) Empty (Full pin.door) pin.out refl c.exchange.ensures.3 in
-    let made = e.2 pin.slot pin.generation refl (ap (λ m. pinned m.0.caller m.0.mine) is ∙ ap (λ d. pinned d pin.place.me.0.mine) pin.numbered ∙ pin.holds) in
-    let k = released_by (plan_of pin) pin.caller pin.generation pin.slot n pin.place.me.0 ((cell_of pin.slot pin.caller, Full pin.door) ∷ []) met mid is pin.told pin.numbered pin.ranged.0 made.0 in
+    let made = e.2 pin.slot pin.generation pin.door refl (ap (λ m. pinned m.0.caller m.0.mine) is ∙ ap (λ d. pinned d pin.place.me.0.mine) pin.numbered ∙ pin.holds) (ap (λ m. m.1) is ∙ (λ i. (cell_of pin.slot (sym (ap (λ m. m.0.caller) is ∙ pin.numbered) i), Full pin.door) ∷ [])) in
+    let k = released_by (plan_of pin) pin.caller pin.generation pin.slot n (g.D.Shown.list pin.door) pin.place.me.0 ((cell_of pin.slot pin.caller, Full pin.door) ∷ []) met mid is pin.told pin.numbered pin.ranged.0 made.0 in
     let f = freed_by (plan_of pin) pin.caller mid c.fetch_or.new.seat.me pin.generation (k.plan ∙ pin.told) (k.caller ∙ pin.numbered) pin.ranged.0 (e2.2 pin.slot pin.generation (k.task_is ∙ drains n pin.slot pin.generation c.if-found.false)) in
     record {
       at_table = e2.0 ∙ e.0 ∙ c.exchange.ensures.0 ∙ pin.at_table;
@@ -147,8 +147,8 @@ returns g c =
     let mid = c.fetch_add-found.new.seat.me in
     let n = c.fetch_add-found.result in
     let is = out_is met pin.place.me [] (cell_of pin.slot pin.caller) (cell_of pin.slot pin.caller) Empty (Full pin.door) pin.out refl c.exchange.ensures.3 in
-    let made = e.2 pin.slot pin.generation refl (ap (λ m. pinned m.0.caller m.0.mine) is ∙ ap (λ d. pinned d pin.place.me.0.mine) pin.numbered ∙ pin.holds) in
-    let k = released_by (plan_of pin) pin.caller pin.generation pin.slot n pin.place.me.0 ((cell_of pin.slot pin.caller, Full pin.door) ∷ []) met mid is pin.told pin.numbered pin.ranged.0 made.0 in
+    let made = e.2 pin.slot pin.generation pin.door refl (ap (λ m. pinned m.0.caller m.0.mine) is ∙ ap (λ d. pinned d pin.place.me.0.mine) pin.numbered ∙ pin.holds) (ap (λ m. m.1) is ∙ (λ i. (cell_of pin.slot (sym (ap (λ m. m.0.caller) is ∙ pin.numbered) i), Full pin.door) ∷ [])) in
+    let k = released_by (plan_of pin) pin.caller pin.generation pin.slot n (g.D.Shown.list pin.door) pin.place.me.0 ((cell_of pin.slot pin.caller, Full pin.door) ∷ []) met mid is pin.told pin.numbered pin.ranged.0 made.0 in
     let f = freed_by (plan_of pin) pin.caller mid c.fetch_or.new.seat.me pin.generation (k.plan ∙ pin.told) (k.caller ∙ pin.numbered) pin.ranged.0 (e2.2 pin.slot pin.generation (k.task_is ∙ drains n pin.slot pin.generation c.if-found.false)) in
     record {
       same = record { table = sym (e2.0 ∙ e.0 ∙ c.exchange.ensures.0); plan = refl; caller = refl };

@@ -26,7 +26,7 @@ join_seat-requires g c =
       c.requires.table ∙ same,
       call.bare,
       omega arith,
-      joins g.D.Shown.setting g.D.Shown.docs table.key registrar.place.id registrar.place.me.0 call.place.id call.place.me.0,
+      joins g.D.Shown.setting g.D.Shown.docs g.D.Shown.list table.key registrar.place.id registrar.place.me.0 call.place.id call.place.me.0,
     )
 
 pub store-requires : goal.store-requires
@@ -44,7 +44,7 @@ store-requires g c =
     let few = call.ranged in (
       e.0 ∙ same,
       omega arith,
-      answers g.D.Shown.setting g.D.Shown.docs table.key table.table_id.slots c.join_seat.new.seat.id me (640 + 8 * call.caller) hand
+      answers g.D.Shown.setting g.D.Shown.docs g.D.Shown.list table.key table.table_id.slots c.join_seat.new.seat.id me (640 + 8 * call.caller) hand
           refl call.ranged.0 call.ranged.1 (ap (λ m. m.0.hand) e.2 ∙ call.in_hand) (ap (λ m. m.0.registrar) e.2 ∙ registrar.role) (ap (λ m. m.0.plan) e.2 ∙ registrar.told ∙ ap (λ p. Some p) kp)
           (subst (λ (z : Plan g.row.D-Setting.Denot × List (Entry g.row.U.Denot g.row.D-Docs.Denot g.row.D-Deed.Denot)). IsAllowed (limits z.0) (state_of (limits z.0) z.1) (answer_of call.asked.call z.0 z.1 hand)) (λ i. (kp i, sp i)) c.requires.may),
     )

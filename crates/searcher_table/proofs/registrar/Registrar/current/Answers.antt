@@ -17,7 +17,7 @@ load-word-requires g c =
     let words : table.table_id.words ≡ 1168 = ap (λ z. z.words) (sym same) ∙ registrar.sized in (
       same,
       omega arith,
-      peeks g.D.Shown.setting g.D.Shown.docs table.key table.table_id.slots registrar.place.id registrar.place.me (registrar.told ∙ ap (λ t. Some t.shared.key) (sym c.deref.ensures)),
+      peeks g.D.Shown.setting g.D.Shown.docs g.D.Shown.list table.key table.table_id.slots registrar.place.id registrar.place.me (registrar.told ∙ ap (λ t. Some t.shared.key) (sym c.deref.ensures)),
     )
 
 pub invariant_of-self-clause-counted : goal.invariant_of-self-clause-counted

@@ -11,7 +11,7 @@ split_seat-place-requires g c =
     let words : table.table_id.words ≡ 1168 = ap (λ z. z.words) (sym same) ∙ registrar.sized in (
       same,
       omega arith,
-      deals g.D.Shown.setting g.D.Shown.docs table.key registrar.place.id registrar.place.me.0 registrar.role left,
+      deals g.D.Shown.setting g.D.Shown.docs g.D.Shown.list table.key registrar.place.id registrar.place.me.0 registrar.role left,
     )
 
 pub invariant_of-result-clause-idle : goal.invariant_of-result-clause-idle

@@ -18,7 +18,7 @@ join_seat-requires g c =
       c.requires ∙ same,
       note.bare,
       omega arith,
-      joins g.D.Shown.setting g.D.Shown.docs table.key registrar.place.id registrar.place.me.0 note.place.id note.place.me.0,
+      joins g.D.Shown.setting g.D.Shown.docs g.D.Shown.list table.key registrar.place.id registrar.place.me.0 note.place.id note.place.me.0,
     )
 
 pub load-requires : goal.load-requires
@@ -29,7 +29,7 @@ load-requires g c =
     let words : table.table_id.words ≡ 1168 = ap (λ z. z.words) (sym same) ∙ registrar.sized in (
       c.join_seat.ensures.0 ∙ same,
       omega arith,
-      looks g.D.Shown.setting g.D.Shown.docs table.key table.table_id.slots c.join_seat.new.seat.id c.join_seat.new.seat.me 16,
+      looks g.D.Shown.setting g.D.Shown.docs g.D.Shown.list table.key table.table_id.slots c.join_seat.new.seat.id c.join_seat.new.seat.me 16,
     )
 
 pub invariant_of-self-clause-counted : goal.invariant_of-self-clause-counted

@@ -1,5 +1,4 @@
 use Rattle.std.proofs.Common.{◌≡◌, ◌+◌, ◌*◌, ◌<◌, ◌∙◌, [], ◌∷◌, ◌++◌, length, length-append, List, count_by, Some, None, refl, sym, ap, subst, arith}
-use Rattle.std.specs.List.{AllByRecursion}
 use Rattle.registry_machine.specs.declared.entry.Entry.{Entry}
 use Rattle.registry_machine.specs.declared.entry.Entry.TheVariants.{Open}
 use Rattle.registry_machine.specs.Entries.{has_place}
@@ -9,7 +8,6 @@ use Rattle.searcher_table.specs.declared.board.Hand.{Hand}
 use Rattle.searcher_table.specs.Words.{last_generation, limits}
 use Rattle.searcher_table.specs.Warming.{listed, last_in, current_in, warming_in}
 use Rattle.searcher_table.specs.Registrars.{plan_of, seen_of}
-use Rattle.searcher_table.proofs.Frame.{all_map, all_last}
 use Rattle.std.specs.Prelude.{slice_get}
 use Rattle.searcher_table.specs.Spares.{AreAt}
 use Rattle.searcher_table.proofs.Row.{got_here, got_before}
@@ -46,7 +44,7 @@ fill-requires-clause-below g c =
 pub fill-requires-clause-doors : goal.fill-requires-clause-doors
 fill-requires-clause-doors g c =
     let d = c.requires.doors in
-    record { count = d.count; settings = d.settings; same = d.same }
+    record { count = d.count; settings = d.settings; same = d.same; unused = d.unused }
 
 pub join_seat-requires : goal.join_seat-requires
 join_seat-requires g c =
@@ -60,7 +58,7 @@ join_seat-requires g c =
       c.requires.call.table ∙ same,
       call.bare,
       omega arith,
-      joins g.D.Shown.setting g.D.Shown.docs table.key c.fill.new.place.id c.fill.new.place.me.0 call.place.id call.place.me.0,
+      joins g.D.Shown.setting g.D.Shown.docs g.D.Shown.list table.key c.fill.new.place.id c.fill.new.place.me.0 call.place.id call.place.me.0,
     )
 
 pub compare_exchange-requires : goal.compare_exchange-requires
@@ -85,7 +83,7 @@ compare_exchange-requires g c =
     let few = call.ranged in (
       e.0 ∙ fill.table ∙ f.table ∙ same,
       omega arith,
-      opens_next g.D.Shown.setting g.D.Shown.docs table.key table.table_id.slots c.join_seat.new.seat.id me (640 + 8 * call.caller) hand slot (plan_of registrar).callers fill.filled.shown
+      opens_next g.D.Shown.setting g.D.Shown.docs g.D.Shown.list table.key table.table_id.slots c.join_seat.new.seat.id me (640 + 8 * call.caller) hand slot (plan_of registrar).callers fill.filled.shown
           refl call.ranged.0 call.ranged.1 (ap (λ m. m.0.hand) e.2 ∙ call.in_hand) (ap (λ m. m.0.registrar) e.2 ∙ b.begun.opener.role) (ap (λ m. m.0.plan) e.2 ∙ b.begun.opener.plan ∙ ap (λ p. Some p) kp) c.requires.call.call
           (ap (λ m. m.0.task) e.2 ∙ b.begun.opener.task) (ap (λ p. p.callers) kp) (ap (λ m. m.0.filling) e.2 ∙ b.filling)
           (subst (λ (z : Plan g.row.D-Setting.Denot). slot < (limits z).slots) kp f.free.below)
@@ -104,7 +102,7 @@ split_seat-seat-requires g c =
     let words : table.table_id.words ≡ 1168 = ap (λ z. z.words) (sym same) ∙ registrar.sized in (
       c.compare_exchange.ensures.0 ∙ c.join_seat.ensures.0 ∙ c.fill.ensures.table ∙ c.claim-slot.ensures.table ∙ same,
       omega arith,
-      splits g.D.Shown.setting g.D.Shown.docs table.key c.compare_exchange.new.seat.id c.compare_exchange.new.seat.me.0,
+      splits g.D.Shown.setting g.D.Shown.docs g.D.Shown.list table.key c.compare_exchange.new.seat.id c.compare_exchange.new.seat.me.0,
     )
 
 pub invariant_of-self : goal.invariant_of-self

@@ -24,7 +24,7 @@ join_seat-requires g c =
       c.requires.table ∙ same,
       o.bare,
       omega arith,
-      joins g.D.Shown.setting g.D.Shown.docs table.key registrar.place.id registrar.place.me.0 o.seat.id o.seat.me.0,
+      joins g.D.Shown.setting g.D.Shown.docs g.D.Shown.list table.key registrar.place.id registrar.place.me.0 o.seat.id o.seat.me.0,
     )
 
 pub swap-word-requires : goal.swap-word-requires
@@ -39,7 +39,7 @@ swap-word-requires g c =
     let least = least_of (state_of (limits (plan_of registrar)) (seen_of registrar)).current registrar.current o.generation registrar.current_is c.requires.latest in (
       e.0 ∙ same,
       omega arith,
-      publishes g.D.Shown.setting g.D.Shown.docs table.key table.table_id.slots c.join_seat.new.seat.id me 8 _ (record { generation = o.generation; slot = o.slot }) refl (omega arith) (ap (λ m. m.0.registrar) e.2 ∙ registrar.role) (ap (λ m. m.0.task) e.2 ∙ registrar.idle)
+      publishes g.D.Shown.setting g.D.Shown.docs g.D.Shown.list table.key table.table_id.slots c.join_seat.new.seat.id me 8 _ (record { generation = o.generation; slot = o.slot }) refl (omega arith) (ap (λ m. m.0.registrar) e.2 ∙ registrar.role) (ap (λ m. m.0.task) e.2 ∙ registrar.idle)
           (ap (λ m. m.0.fresh) e.2 ∙ o.warming) (subst (λ z. IfSome z (λ h. h ≤ o.generation)) (λ i. (state_of (limits (sym (ap (λ t. t.shared.key) c.deref.ensures) i)) (sym (ap (λ m. m.0.seen) e.2) i)).current) least),
     )
 

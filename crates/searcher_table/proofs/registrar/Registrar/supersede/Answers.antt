@@ -22,7 +22,7 @@ join_seat-requires g c =
       c.requires.table ∙ same,
       o.bare,
       omega arith,
-      joins g.D.Shown.setting g.D.Shown.docs table.key registrar.place.id registrar.place.me.0 o.seat.id o.seat.me.0,
+      joins g.D.Shown.setting g.D.Shown.docs g.D.Shown.list table.key registrar.place.id registrar.place.me.0 o.seat.id o.seat.me.0,
     )
 
 pub store-requires : goal.store-requires
@@ -38,7 +38,7 @@ store-requires g c =
     let current = some_number (state_of (limits (plan_of registrar)) (seen_of registrar)).current registrar.current registrar.current_is (omega arith) in (
       e.0 ∙ same,
       omega arith,
-      supersedes g.D.Shown.setting g.D.Shown.docs table.key table.table_id.slots c.join_seat.new.seat.id me 16 registrar.current (record { generation = o.generation; slot = o.slot }) refl (ap (λ m. m.0.registrar) e.2 ∙ registrar.role) (ap (λ m. m.0.task) e.2 ∙ registrar.idle)
+      supersedes g.D.Shown.setting g.D.Shown.docs g.D.Shown.list table.key table.table_id.slots c.join_seat.new.seat.id me 16 registrar.current (record { generation = o.generation; slot = o.slot }) refl (ap (λ m. m.0.registrar) e.2 ∙ registrar.role) (ap (λ m. m.0.task) e.2 ∙ registrar.idle)
           (ap (λ m. m.0.fresh) e.2 ∙ o.warming) (ap (λ m. m.0.plan) e.2 ∙ registrar.told ∙ ap (λ t. Some t.shared.key) (sym c.deref.ensures))
           ((λ i. (state_of (limits (ap (λ t. t.shared.key) c.deref.ensures i)) (ap (λ m. m.0.seen) e.2 i)).current) ∙ current) later,
     )

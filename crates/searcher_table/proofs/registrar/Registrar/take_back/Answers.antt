@@ -15,7 +15,7 @@ join_seat-requires g c =
       c.requires.table ∙ same,
       pass.bare,
       omega arith,
-      takes_back g.D.Shown.setting g.D.Shown.docs table.key registrar.place.id registrar.place.me.0 pass.place.id pass.place.me.0 (omega arith) c.requires.none,
+      takes_back g.D.Shown.setting g.D.Shown.docs g.D.Shown.list table.key registrar.place.id registrar.place.me.0 pass.place.id pass.place.me.0 (omega arith) c.requires.none,
     )
 
 pub returns : goal.returns

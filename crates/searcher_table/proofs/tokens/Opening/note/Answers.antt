@@ -10,5 +10,5 @@ split_seat-place-requires g c =
     let words : table.table_id.words ≡ 1168 = ap (λ z. z.words) (sym same) ∙ opening.sized in (
       same,
       omega arith,
-      tells_on g.D.Shown.setting g.D.Shown.docs table.key opening.seat.id opening.seat.me.0,
+      tells_on g.D.Shown.setting g.D.Shown.docs g.D.Shown.list table.key opening.seat.id opening.seat.me.0,
     )
