@@ -98,27 +98,25 @@ impl<D: Shown, U: Drop> Pass<D, U> {
             table,
         } = self;
         let word = table.shared.fetch_add::<Acquire>(&mut place, CURRENT, 1);
-        let made = made + 1;
         let generation = (word / GENERATION) as u32;
         if generation == 0 {
             return Err(Pass {
                 caller,
-                made,
+                made: made + 1,
                 budget,
                 place,
                 table,
             });
         }
-        let slot = (word / SLOT % 128) as u32;
-        let cell = CELLS * slot as usize + caller as usize - 1;
+        let cell = CELLS * (word / SLOT % 128) as usize + caller as usize - 1;
         let door = table.shared.exchange(&mut place, cell, Cell::Empty).door();
         Ok(Pin {
             caller,
-            made,
+            made: made + 1,
             budget,
             generation,
             ticket: (word % SLOT) as u32,
-            slot,
+            slot: (word / SLOT % 128) as u32,
             door,
             place,
             table,
