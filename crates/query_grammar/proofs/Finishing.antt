@@ -1,0 +1,57 @@
+-- What can stand is gone on with to the end, and what can't stand ends it.
+use Rattle.std.proofs.Common.{◌≡◌, ◌++◌, ◌∷◌, [], ℕ, List, Bool, true, false, Option, None, Some, length, refl, sym, subst, ◌∙◌}
+use Rattle.std.specs.List.{list_any}
+use Rattle.std.proofs.lemmas.Bool.{or_parts, false≢true, true≢false}
+use Rattle.std.proofs.lemmas.List.{append_assoc}
+use Rattle.query_lexemes.specs.declared.lexeme.What.{What}
+use Rattle.query_lexemes.specs.declared.lexeme.What.TheVariants as what
+use Rattle.query_text.specs.Levels.{joins, top, put}
+use Rattle.query_text.specs.Reads.{Setting, after, is_finish}
+use Rattle.query_grammar.specs.Forms.{AreOfForms}
+use Rattle.query_grammar.specs.Fitting.{Level, stands, AllStand, behind_all}
+use Rattle.query_grammar.specs.Laws.{StandingIsForms, StandingGoesOn, NothingGoesOn}
+use Rattle.query_grammar.proofs.Standing.{put_joins, can_close, joins_between, text_stands}
+use Rattle.query_grammar.proofs.Forming.{stand_forms}
+
+-- a `)` for each query outside
+closings : List Level → List What
+closings [] = []
+closings (o ∷ os) = what.Closing ∷ closings os
+
+module _ (s : Setting) where
+  close_all : (os : List Level) (l : Level) → joins l ≡ true → AllStand s l os (closings os ++ what.Finish ∷ [])
+  unfolding closings after
+  close_all [] l h = (joins_between l h, λ e. refl, tt)
+  close_all (o ∷ os) l h = (can_close o os l h, λ e. absurd (false≢true e), close_all os (put o _) (put_joins o _))
+
+  finish : (l : Level) (os : List Level) → AllStand s l os ((what.Star ∷ closings os) ++ what.Finish ∷ [])
+  unfolding after
+  finish l os = (refl, λ e. absurd (false≢true e), close_all os (put l _) (put_joins l _))
+
+  stand_on : (ws rest : List What) (l : Level) (os : List Level) → AllStand s l os ws → list_any is_finish ws ≡ false
+      → AllStand s (behind_all s l os ws).0 (behind_all s l os ws).1 rest → AllStand s l os (ws ++ rest)
+  stand_on [] rest l os h n k = k
+  stand_on (w ∷ ws) rest l os h n k =
+      let p : (is_finish w ≡ false) × (list_any is_finish ws ≡ false) = or_parts _ _ n in
+      (h.0, λ e. absurd (false≢true (sym p.0 ∙ e)), stand_on ws rest (after s l os w).0 (after s l os w).1 h.2 p.1 k)
+
+  stands_there : (ws rest : List What) (w : What) (l : Level) (os : List Level) → AllStand s l os (ws ++ w ∷ rest)
+      → stands (behind_all s l os ws).0 (behind_all s l os ws).1 w ≡ true
+  stands_there [] rest w l os h = h.0
+  stands_there (v ∷ ws) rest w l os h = stands_there ws rest w (after s l os v).0 (after s l os v).1 h.2
+
+  pub standing_is_forms : (df : Option ℕ) → StandingIsForms s df
+  standing_is_forms df ws = (stand_forms s df ws, λ f. subst (AllStand s (top df) []) f.1 (text_stands s f.0 df))
+
+  pub standing_goes_on : (df : Option ℕ) → StandingGoesOn s df
+  standing_goes_on df ws h n =
+      let l : Level = (behind_all s (top df) [] ws).0 in
+      let os : List Level = (behind_all s (top df) [] ws).1 in
+      let more : List What = what.Star ∷ closings os in
+      let all : AllStand s (top df) [] (ws ++ (more ++ what.Finish ∷ [])) = stand_on ws (more ++ what.Finish ∷ []) (top df) [] h n (finish l os) in
+      (more, subst AreOfForms (append_assoc ws more (what.Finish ∷ []))
+      (stand_forms s df (ws ++ more) (subst (AllStand s (top df) []) (sym (append_assoc ws more (what.Finish ∷ []))) all)))
+
+  pub nothing_goes_on : (df : Option ℕ) → NothingGoesOn s df
+  nothing_goes_on df ws rest w h f =
+      true≢false (sym (stands_there ws rest w (top df) [] (subst (AllStand s (top df) []) f.1 (text_stands s f.0 df))) ∙ h)

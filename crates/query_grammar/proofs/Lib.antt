@@ -1,0 +1,4 @@
+pub mod Standing
+pub mod Forming
+pub mod Finishing
+pub mod Lexing

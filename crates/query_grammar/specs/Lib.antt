@@ -1,0 +1,4 @@
+pub mod Forms
+pub mod Fitting
+pub mod Texts
+pub mod Laws
