@@ -48,9 +48,11 @@ module _ (s : Setting) where
       let l : Level = (behind_all s (top df) [] ws).0 in
       let os : List Level = (behind_all s (top df) [] ws).1 in
       let more : List What = what.Star ∷ closings os in
-      let all : AllStand s (top df) [] (ws ++ (more ++ what.Finish ∷ [])) = stand_on ws (more ++ what.Finish ∷ []) (top df) [] h n (finish l os) in
-      (more, subst AreOfForms (append_assoc ws more (what.Finish ∷ []))
-      (stand_forms s df (ws ++ more) (subst (AllStand s (top df) []) (sym (append_assoc ws more (what.Finish ∷ []))) all)))
+      let all : AllStand s (top df) [] (ws ++ (more ++ what.Finish ∷ [])) = stand_on ws (more ++ what.Finish ∷ []) (top df) [] h n (finish l os) in (
+        more,
+        subst AreOfForms (append_assoc ws more (what.Finish ∷ []))
+            (stand_forms s df (ws ++ more) (subst (AllStand s (top df) []) (sym (append_assoc ws more (what.Finish ∷ []))) all)),
+      )
 
   pub nothing_goes_on : (df : Option ℕ) → NothingGoesOn s df
   nothing_goes_on df ws rest w h f =

@@ -246,7 +246,7 @@ close_outside l o os ws p (r ∷ ps) f outer e h q =
       fits = put_fits r (group w.0) o q;
       outer = outer.1;
       are = all_more r (put_value r (group w.0)) ps (value_leaves (group w.0)) (put_leaves r (group w.0))
-      ∙ close_leaves (all_leaves r ps) (query_leaves w.0) (part_leaves p) ws w.1 e;
+          ∙ close_leaves (all_leaves r ps) (query_leaves w.0) (part_leaves p) ws w.1 e;
     }
 
 text_from : (l : Level) (ws : List What) (p : Part) (ps : List Part) → Fits p l → AllFit ps [] → all_leaves p ps ≡ ws → is_between l ≡ true

@@ -2,3 +2,4 @@ pub mod Standing
 pub mod Forming
 pub mod Finishing
 pub mod Lexing
+pub mod Texts

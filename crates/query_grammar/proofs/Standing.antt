@@ -93,10 +93,13 @@ module _ (s : Setting) where
 
     value_stands : (v : ValueForm) (l : Level) (os : List Level) (rest : List What) → Goes os rest → AllStand s l os (value_leaves v ++ rest)
     value_stands (single w) l os rest k = single_stands w l os rest k
-    value_stands (group q) l os rest k =
-        (refl, λ e. absurd (false≢true e), subst (AllStand s (inside l) (l ∷ os)) (sym (append_assoc (query_leaves q) (what.Closing ∷ []) rest))
-        (query_stands q (inside l) (l ∷ os) (what.Closing ∷ rest) refl
-        (λ m h. (can_close l os m h, λ e. absurd (false≢true e), k (put l _) (put_joins l _)))))
+    value_stands (group q) l os rest k = (
+      refl,
+      λ e. absurd (false≢true e),
+      subst (AllStand s (inside l) (l ∷ os)) (sym (append_assoc (query_leaves q) (what.Closing ∷ []) rest))
+          (query_stands q (inside l) (l ∷ os) (what.Closing ∷ rest) refl
+          (λ m h. (can_close l os m h, λ e. absurd (false≢true e), k (put l _) (put_joins l _)))),
+    )
 
   pub text_stands : (t : TextForm) (df : Option ℕ) → AllStand s (top df) [] (leaves t)
   unfolding after
