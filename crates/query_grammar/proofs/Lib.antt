@@ -3,3 +3,4 @@ pub mod Forming
 pub mod Finishing
 pub mod Lexing
 pub mod Texts
+pub mod Meaning

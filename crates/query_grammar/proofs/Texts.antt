@@ -26,8 +26,8 @@ use Rattle.query_text.specs.Reads.{Setting, after, is_finish, read_from, query_o
 use Rattle.query_text.proofs.Steps.{IsUntold}
 use Rattle.query_text.proofs.Reading.{untold_from}
 use Rattle.query_grammar.specs.Forms.{AreOfForms}
-use Rattle.query_grammar.specs.Fitting.{Level, stands, AllStand}
-use Rattle.query_grammar.specs.Texts.{up_to_finish, lexemes_of, whats, IsRight, AllRight, AreOfQuery, behind_items, query_letters, IsOfQuery}
+use Rattle.query_grammar.specs.Fitting.{Level, stands, AllStand, behind_all}
+use Rattle.query_grammar.specs.Texts.{up_to_finish, lexemes_of, whats, IsRight, AllRight, AreOfQuery, behind_items, query_letters, IsOfQuery, query_read}
 use Rattle.query_grammar.specs.Laws.{LettersRead, TextsRead}
 use Rattle.query_grammar.proofs.Standing.{text_stands}
 use Rattle.query_grammar.proofs.Forming.{stand_forms}
@@ -88,6 +88,10 @@ syntax_none what.Finish l os at h = no_fault _ _ (not_from_true _ h)
 syntax_none (what.Begun from to) l os at h = refl
 syntax_none what.Half l os at h = refl
 syntax_none what.Flaw l os at h = refl
+
+finish_is : (w : What) → is_finish w ≡ true → w ≡ what.Finish
+finish_is what.Finish h = refl
+finish_is w h = absurd (false≢true h)
 
 -- ---- lexemes
 
@@ -152,15 +156,26 @@ module _ (s : Setting) (most : ℕ) where
       right_or (is_finish x.what) l os x xs refl e.2 (stands_or x.what x.wrong xs l os x.at u.0 e.0 e.1 u.1.syntax) (right_from l os x u.0 u.1)
       (λ f g. reads_right xs (after s l os x.what).0 (after s l os x.what).1 f g) t.1
 
+  -- what is read behind them all
+  abbrev pub clauses_read : Level → List Level → List What → Query
+  clauses_read l os ws = joined s.op (behind_all s l os ws).0.clauses
+
+  behind_finish : (l : Level) (os : List Level) (w : What) → is_finish w ≡ true → joined s.op l.clauses ≡ clauses_read l os (w ∷ [])
+  unfolding after
+  behind_finish l os w h = rw (finish_is w h) refl
+
   read_or : (b : Bool) (l : Level) (os : List Level) (x : Lexeme) (xs : List Lexeme) → is_finish x.what ≡ b → (is_finish x.what ≡ false → Ended xs)
       → AreRight l os (x ∷ (if b then [] else up_to_finish xs))
       → (Ended xs → AreRight (after s l os x.what).0 (after s l os x.what).1 (up_to_finish xs)
-      → reads (read_from s most (after s l os x.what).0 (after s l os x.what).1 xs))
-      → reads (if b then Ok (joined s.op l.clauses) else read_from s most (after s l os x.what).0 (after s l os x.what).1 xs)
-  read_or true l os x xs b e r k = refl
+          → read_from s most (after s l os x.what).0 (after s l os x.what).1 xs
+          ≡ Ok (clauses_read (after s l os x.what).0 (after s l os x.what).1 (whats (up_to_finish xs))))
+      → (if b then Ok (joined s.op l.clauses) else read_from s most (after s l os x.what).0 (after s l os x.what).1 xs)
+      ≡ Ok (clauses_read l os (x.what ∷ whats (if b then [] else up_to_finish xs)))
+  read_or true l os x xs b e r k = ap (λ (q : Query). Ok q) (behind_finish l os x.what b)
   read_or false l os x xs b e r k = k (e b) (r.0.2, r.1.1)
 
-  right_reads : (xs : List Lexeme) (l : Level) (os : List Level) → Ended xs → AreRight l os (up_to_finish xs) → reads (read_from s most l os xs)
+  right_reads : (xs : List Lexeme) (l : Level) (os : List Level) → Ended xs → AreRight l os (up_to_finish xs)
+      → read_from s most l os xs ≡ Ok (clauses_read l os (whats (up_to_finish xs)))
   unfolding read_from up_to_finish
   right_reads [] l os e r = absurd e
   right_reads (x ∷ xs) l os e r =
@@ -168,10 +183,6 @@ module _ (s : Setting) (most : ℕ) where
       (read_or (is_finish x.what) l os x xs refl e.2 r (λ f g. right_reads xs (after s l os x.what).0 (after s l os x.what).1 f g))
 
 -- ---- up to the end
-
-finish_is : (w : What) → is_finish w ≡ true → w ≡ what.Finish
-finish_is what.Finish h = refl
-finish_is w h = absurd (false≢true h)
 
 abbrev HasEnd : List What → Type 0
 HasEnd ws = (vs : List What) × (ws ≡ vs ++ what.Finish ∷ [])
@@ -200,14 +211,15 @@ module _ (s : Setting) (most : ℕ) (df : Option ℕ) where
       let r : AreRight s most (top df) [] (lexemes_of end ls) = reads_right s most (lexemes (length ls + 1) end ls) (top df) [] (ended end ls) h in
       record { forms = forms_of s df (whats (lexemes_of end ls)) (has_end (lexemes (length ls + 1) end ls) (ended end ls)) r.0; right = r.1 }
 
-  letters_back : (end : ℕ) (ls : List Letter) → AreOfQuery s most df end ls → reads (query_of s most df end ls)
+  letters_value : (end : ℕ) (ls : List Letter) → AreOfQuery s most df end ls
+      → query_of s most df end ls ≡ Ok (clauses_read s most (top df) [] (whats (lexemes_of end ls)))
   unfolding query_of lexemes_of
-  letters_back end ls q =
+  letters_value end ls q =
       right_reads s most (lexemes (length ls + 1) end ls) (top df) [] (ended end ls)
       (subst (AllStand s (top df) []) q.forms.1 (text_stands s q.forms.0 df), q.right)
 
   pub letters_read : LettersRead s most df
-  letters_read end ls = (letters_there end ls, letters_back end ls)
+  letters_read end ls = (letters_there end ls, λ q. ap (λ (r : Result Query QueryFault). is_some (result_ok r)) (letters_value end ls q))
 
   abbrev parses : Result Parsed QueryFault → Type 0
   parses r = is_some (result_ok r) ≡ true
@@ -216,9 +228,9 @@ module _ (s : Setting) (most : ℕ) (df : Option ℕ) where
   local_there p (Ok q) h = refl
   local_there p (Err e) h = absurd (false≢true h)
 
-  local_back : (p : Local) (r : Result Query QueryFault) → reads r → parses (with_local p r)
-  local_back p (Ok q) h = refl
-  local_back p (Err e) h = absurd (false≢true h)
+  parsed : (r : Result Parsed QueryFault) (q : Query) → query_read r ≡ Some q → parses r
+  parsed (Ok p) q h = refl
+  parsed (Err e) q h = absurd (cc h)
 
   module _ (end : ℕ) where
     -- the letters of the query, which read
@@ -229,11 +241,13 @@ module _ (s : Setting) (most : ℕ) (df : Option ℕ) where
     items_there (Ok p) h = (p.1, refl, local_there p.0 (query_of s most df end p.1) h)
     items_there (Err at) h = absurd (false≢true h)
 
-    items_back : (r : Result (Local × List Letter) ℕ) → Found (behind_items r) → parses (behind_local s most df end r)
-    items_back (Ok p) f =
-        let e : f.0 ≡ p.1 = cc f.1 in
-        local_back p.0 (query_of s most df end p.1) (subst (λ (ls : List Letter). reads (query_of s most df end ls)) e f.2)
-    items_back (Err at) f = absurd (cc f.1)
+    items_value : (r : Result (Local × List Letter) ℕ) (ls : List Letter) (q : Query) → behind_items r ≡ Some ls → query_of s most df end ls ≡ Ok q
+        → query_read (behind_local s most df end r) ≡ Some q
+    items_value (Ok p) ls q e h =
+        let f : ls ≡ p.1 = cc e in
+        let g : query_of s most df end p.1 ≡ Ok q = subst (λ (ms : List Letter). query_of s most df end ms ≡ Ok q) f h in
+        rw g refl
+    items_value (Err at) ls q e h = absurd (cc e)
 
     mark_there : (o : Option (List Letter)) (ls : List Letter)
         → parses (option_map_or (λ params. behind_local s most df end (local end params)) o (with_local no_local (query_of s most df end ls)))
@@ -241,12 +255,14 @@ module _ (s : Setting) (most : ℕ) (df : Option ℕ) where
     mark_there None ls h = (ls, refl, local_there no_local (query_of s most df end ls) h)
     mark_there (Some params) ls h = items_there (local end params) h
 
-    mark_back : (o : Option (List Letter)) (ls : List Letter) → Found (option_map_or (λ params. behind_items (local end params)) o (Some ls))
-        → parses (option_map_or (λ params. behind_local s most df end (local end params)) o (with_local no_local (query_of s most df end ls)))
-    mark_back None ls f =
-        let e : f.0 ≡ ls = cc f.1 in
-        local_back no_local (query_of s most df end ls) (subst (λ (ms : List Letter). reads (query_of s most df end ms)) e f.2)
-    mark_back (Some params) ls f = items_back (local end params) f
+    mark_value : (o : Option (List Letter)) (all ls : List Letter) (q : Query)
+        → option_map_or (λ params. behind_items (local end params)) o (Some all) ≡ Some ls → query_of s most df end ls ≡ Ok q
+        → query_read (option_map_or (λ params. behind_local s most df end (local end params)) o (with_local no_local (query_of s most df end all))) ≡ Some q
+    mark_value None all ls q e h =
+        let f : ls ≡ all = cc e in
+        let g : query_of s most df end all ≡ Ok q = subst (λ (ms : List Letter). query_of s most df end ms ≡ Ok q) f h in
+        rw g refl
+    mark_value (Some params) all ls q e h = items_value (local end params) ls q e h
 
   text_there : (text : List ℕ) → parses (letters_reading s most df (length text) (letters_of text)) → IsOfQuery s most df text
   unfolding letters_reading
@@ -254,10 +270,12 @@ module _ (s : Setting) (most : ℕ) (df : Option ℕ) where
       let f : Found (length text) (query_letters (length text) (letters_of text)) = mark_there (length text) (behind_mark (letters_of text)) (letters_of text) h in
       record { letters = f.0; behind = f.1; query = letters_there (length text) f.0 f.2 }
 
-  text_back : (text : List ℕ) → IsOfQuery s most df text → parses (letters_reading s most df (length text) (letters_of text))
+  pub text_value : (text : List ℕ) (q : IsOfQuery s most df text)
+      → query_read (letters_reading s most df (length text) (letters_of text))
+      ≡ Some (clauses_read s most (top df) [] (whats (lexemes_of (length text) q.letters)))
   unfolding letters_reading
-  text_back text q =
-      mark_back (length text) (behind_mark (letters_of text)) (letters_of text) (q.letters, q.behind, letters_back (length text) q.letters q.query)
+  text_value text q =
+      mark_value (length text) (behind_mark (letters_of text)) (letters_of text) q.letters _ q.behind (letters_value (length text) q.letters q.query)
 
   pub texts_read : TextsRead s most df
-  texts_read text = (text_there text, text_back text)
+  texts_read text = (text_there text, λ q. parsed _ _ (text_value text q))

@@ -1,5 +1,5 @@
 -- Laws of reading, by the forms. A list of lexemes stands for what they are.
-use Rattle.std.specs.Prelude.{ℕ, ◌≡◌, ◌↔◌, List, [], ◌∷◌, ◌++◌, Bool, true, false, Option, is_some}
+use Rattle.std.specs.Prelude.{ℕ, ◌≡◌, ◌↔◌, List, [], ◌∷◌, ◌++◌, Bool, true, false, Option, Some, is_some}
 use Rattle.std.specs.List.{list_any}
 use Rattle.std.specs.Result.{result_ok}
 use Rattle.query_lexemes.specs.declared.letter.Letter.{Letter}
@@ -7,9 +7,10 @@ use Rattle.query_lexemes.specs.declared.lexeme.What.{What}
 use Rattle.query_lexemes.specs.declared.lexeme.What.TheVariants as what
 use Rattle.query_text.specs.Levels.{top}
 use Rattle.query_text.specs.Reads.{Setting, is_finish, query_of, reading}
-use Rattle.query_grammar.specs.Forms.{AreOfForms}
+use Rattle.query_grammar.specs.Forms.{TextForm, leaves, AreOfForms}
 use Rattle.query_grammar.specs.Fitting.{stands, AllStand, behind_all}
-use Rattle.query_grammar.specs.Texts.{AreOfQuery, IsOfQuery}
+use Rattle.query_grammar.specs.Texts.{AreOfQuery, IsOfQuery, query_read}
+use Rattle.query_grammar.specs.Meaning.{meaning}
 
 -- lexemes can stand from the beginning to the end of a text exactly where they are those of a tree
 abbrev pub StandingIsForms : Setting → Option ℕ → Type 0
@@ -34,3 +35,12 @@ LettersRead s most df = (end : ℕ) (ls : List Letter)
 abbrev pub TextsRead : Setting → ℕ → Option ℕ → Type 0
 TextsRead s most df = (text : List ℕ)
     → is_some (result_ok (reading s.fields df s.op most text)) ≡ true ↔ IsOfQuery s most df text
+
+-- a text that is of a tree, and right, reads to the meaning of this tree
+abbrev pub TextsMean : Setting → ℕ → Option ℕ → Type 0
+TextsMean s most df = (text : List ℕ) (q : IsOfQuery s most df text)
+    → query_read (reading s.fields df s.op most text) ≡ Some (meaning s df q.query.forms.0)
+
+-- no two trees have the same leaves
+abbrev pub OneTree : Type 0
+OneTree = (t u : TextForm) → leaves t ≡ leaves u → t ≡ u

@@ -1,4 +1,5 @@
 pub mod Forms
 pub mod Fitting
 pub mod Texts
+pub mod Meaning
 pub mod Laws

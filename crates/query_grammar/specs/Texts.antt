@@ -1,7 +1,10 @@
 -- Which texts read, by the forms.
-use Rattle.std.specs.Prelude.{ℕ, ◌≡◌, ◌+◌, List, [], ◌∷◌, length, map, Bool, true, false, if◌then◌else◌, Option, Some, None, Result, Ok, Err}
+use Rattle.std.specs.Prelude.{ℕ, ◌≡◌, ◌+◌, List, [], ◌∷◌, length, map, Bool, true, false, if◌then◌else◌, Option, Some, None, option_map, Result, Ok, Err}
 use Rattle.std.specs.Option.{option_map_or}
+use Rattle.std.specs.Result.{result_ok}
 use Rattle.field_schema.specs.declared.field.Field.{Field}
+use Rattle.query_tree.specs.declared.query.Query.{Query}
+use Rattle.query_lexemes.specs.declared.fault.QueryFault.{QueryFault}
 use Rattle.query_lexemes.specs.declared.letter.Letter.{Letter}
 use Rattle.query_lexemes.specs.declared.local.Local.{Local}
 use Rattle.query_lexemes.specs.declared.lexeme.Lexeme.{Lexeme}
@@ -9,7 +12,7 @@ use Rattle.query_lexemes.specs.declared.lexeme.What.{What}
 use Rattle.query_lexemes.specs.Letters.{letters as letters_of}
 use Rattle.query_lexemes.specs.Lexemes.{lexemes}
 use Rattle.query_lexemes.specs.Local.{local, behind_mark}
-use Rattle.query_text.specs.declared.op.Op.{Op}
+use Rattle.query_text.specs.declared.reader.Parsed.{Parsed}
 use Rattle.query_text.specs.Levels.{top}
 use Rattle.query_text.specs.Readings.{kind_for, words_of}
 use Rattle.query_text.specs.Faults.{unknown_field, bad_number, bad_bound, from_of, to_of, unsupported, too_deep, too_many}
@@ -66,3 +69,7 @@ pub record IsOfQuery (s : Setting) (most : ℕ) (df : Option ℕ) (text : List �
   pub letters : List Letter
   pub behind : query_letters (length text) (letters_of text) ≡ Some letters
   pub query : AreOfQuery s most df (length text) letters
+
+-- the query that a text reads to, where it does
+abbrev pub query_read : Result Parsed QueryFault → Option Query
+query_read r = option_map (λ p. p.query) (result_ok r)
