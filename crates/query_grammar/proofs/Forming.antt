@@ -12,45 +12,16 @@ use Rattle.query_text.specs.Levels.{is_here, is_own, begins, is_between, joins, 
 use Rattle.query_text.specs.Reads.{Setting, sign_of, after, is_finish}
 use Rattle.query_grammar.specs.Forms.{Conjunction, both, either, Modifier, sign, negation, FieldForm, name, any, word, prefix, quoted, star, range, QueryForm, first, next, ClauseForm, clause, body, ValueForm, single, group, TextForm, blank, query, conjunction, modifier, field, query_leaves, clause_leaves, body_leaves, value_leaves, leaves, AreOfForms}
 use Rattle.query_grammar.specs.Fitting.{TypeOf, Level, stands, AllStand}
+use Rattle.query_grammar.proofs.Parts.{Past, nothing, some, past_leaves, Part, part_leaves, all_leaves, with_clause, put_value}
 use Rattle.query_grammar.proofs.Standing.{not_empty, some_clauses}
 
 -- ---- parts of queries
-
--- the clauses of a query so far, and a conjunction behind them
-data Past : Type 0 where
-  nothing : Past
-  some : QueryForm → Option Conjunction → Past
-
-abbrev past_leaves : Past → List What
-past_leaves nothing = []
-past_leaves (some q j) = query_leaves q ++ conjunction j
 
 abbrev Sign : Type 0
 Sign = TypeOf (sign_of false)
 
 abbrev Target : Type 0
 Target = TypeOf (top None).target
-
--- what was read of a query
-record Part : Type 0 where
-  past : Past
-  before : Option Modifier
-  name : Option FieldForm
-
-abbrev part_leaves : Part → List What
-part_leaves p = past_leaves p.past ++ (modifier p.before ++ field p.name)
-
--- and of those that it is inside
-abbrev all_leaves : Part → List Part → List What
-all_leaves p [] = part_leaves p
-all_leaves p (o ∷ os) = all_leaves o os ++ (what.Opening ∷ part_leaves p)
-
-abbrev with_clause : Past → ClauseForm → QueryForm
-with_clause nothing c = first c
-with_clause (some q j) c = next q j c
-
-abbrev put_value : Part → ValueForm → Part
-put_value p v = record { past = some (with_clause p.past (clause p.before (body p.name v))) None; before = None; name = None }
 
 with_clause_leaves : (p : Past) (c : ClauseForm) → query_leaves (with_clause p c) ≡ past_leaves p ++ clause_leaves c
 unfolding query_leaves

@@ -4,3 +4,5 @@ pub mod Finishing
 pub mod Lexing
 pub mod Texts
 pub mod Meaning
+pub mod Parts
+pub mod Trees

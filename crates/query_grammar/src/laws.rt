@@ -1,12 +1,17 @@
 //! Laws of the grammar. Each function does nothing: its clause is the law.
 ghost use Rattle.std.specs.Prelude.{ℕ, Option};
 ghost use Rattle.query_text.specs.Reads.{Setting};
-ghost use Rattle.query_grammar.specs.Laws.{LettersRead, NothingGoesOn, StandingGoesOn, StandingIsForms, TextsMean, TextsRead};
+ghost use Rattle.query_grammar.specs.Laws.{LettersRead, NothingGoesOn, OneTree, StandingGoesOn, StandingIsForms, TextsMean, TextsRead};
 
 /// Lexemes can stand one behind another from the beginning of a text to its end exactly where they are the leaves of
 /// a tree of the forms, whatever the schema, the operator and the default field.
 pub fn what_stands_is_of_the_forms()
     ensures { (s : Setting) (df : Option ℕ) → StandingIsForms s df }
+{}
+
+/// No two trees of the forms have the same leaves.
+pub fn no_leaves_have_two_trees()
+    ensures { OneTree }
 {}
 
 /// Lexemes that can stand one behind another from the beginning of a text can be gone on with to the leaves of a
