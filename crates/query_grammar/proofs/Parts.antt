@@ -33,4 +33,3 @@ with_clause (some q j) c = next q j c
 
 abbrev pub put_value : Part → ValueForm → Part
 put_value p v = record { past = some (with_clause p.past (clause p.before (body p.name v))) None; before = None; name = None }
-

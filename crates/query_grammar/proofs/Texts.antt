@@ -167,8 +167,8 @@ module _ (s : Setting) (most : ℕ) where
   read_or : (b : Bool) (l : Level) (os : List Level) (x : Lexeme) (xs : List Lexeme) → is_finish x.what ≡ b → (is_finish x.what ≡ false → Ended xs)
       → AreRight l os (x ∷ (if b then [] else up_to_finish xs))
       → (Ended xs → AreRight (after s l os x.what).0 (after s l os x.what).1 (up_to_finish xs)
-          → read_from s most (after s l os x.what).0 (after s l os x.what).1 xs
-          ≡ Ok (clauses_read (after s l os x.what).0 (after s l os x.what).1 (whats (up_to_finish xs))))
+      → read_from s most (after s l os x.what).0 (after s l os x.what).1 xs
+      ≡ Ok (clauses_read (after s l os x.what).0 (after s l os x.what).1 (whats (up_to_finish xs))))
       → (if b then Ok (joined s.op l.clauses) else read_from s most (after s l os x.what).0 (after s l os x.what).1 xs)
       ≡ Ok (clauses_read l os (x.what ∷ whats (if b then [] else up_to_finish xs)))
   read_or true l os x xs b e r k = ap (λ (q : Query). Ok q) (behind_finish l os x.what b)

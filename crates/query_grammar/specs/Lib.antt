@@ -3,3 +3,4 @@ pub mod Fitting
 pub mod Texts
 pub mod Meaning
 pub mod Laws
+pub mod Trials

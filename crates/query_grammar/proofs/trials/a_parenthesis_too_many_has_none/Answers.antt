@@ -1,0 +1,10 @@
+use Rattle.std.proofs.Common.{◌∷◌, [], None, refl}
+use Rattle.query_lexemes.specs.declared.lexeme.What.TheVariants as what
+use Rattle.query_text.specs.Reads.{after}
+use Rattle.query_grammar.specs.Trials.{a, cat, closing, opening, setting}
+use Rattle.query_grammar.proofs.Finishing.{nothing_goes_on}
+use Rattle.query_grammar.proofs.trials.a_parenthesis_too_many_has_none.Goals as goal
+
+pub returns : goal.returns
+unfolding after
+returns c = nothing_goes_on setting None (cat ∷ opening ∷ a ∷ closing ∷ []) (what.Finish ∷ []) closing refl
