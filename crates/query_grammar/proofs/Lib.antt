@@ -6,3 +6,4 @@ pub mod Texts
 pub mod Meaning
 pub mod Parts
 pub mod Trees
+pub mod Right

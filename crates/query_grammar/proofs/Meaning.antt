@@ -29,18 +29,25 @@ use Rattle.query_grammar.specs.Laws.{TextsMean}
 use Rattle.query_grammar.proofs.Texts.{text_value}
 
 -- what is read without a field
-abbrev all_docs : Query
+abbrev pub all_docs : Query
 all_docs = every.All
 
-abbrev place_of : Level → Place
+abbrev pub place_of : Level → Place
 place_of l = record { field = field_for l; named = is_explicit l }
 
 -- a query with nothing before its next clause
-abbrev fresh : Option ℕ → Bool → List Clause → Level
+abbrev pub fresh : Option ℕ → Bool → List Clause → Level
 fresh f n cs = record (top f) { named = n; clauses = cs }
 
+-- a query before its next clause, behind a conjunction
+abbrev pub joined_to : Option ℕ → Bool → List Clause → Option Op → Level
+joined_to f n cs j = record (fresh f n cs) { conj = j }
+
+abbrev pub signed : Option ℕ → Bool → List Clause → Option Op → Option Sign → Level
+signed f n cs j m = record (joined_to f n cs j) { sign = m }
+
 module _ (s : Setting) where
-  behind_append : (xs ys : List What) (l : Level) (os : List Level)
+  pub behind_append : (xs ys : List What) (l : Level) (os : List Level)
       → behind_all s l os (xs ++ ys) ≡ behind_all s (behind_all s l os xs).0 (behind_all s l os xs).1 ys
   behind_append [] ys l os = refl
   behind_append (x ∷ xs) ys l os = behind_append xs ys (after s l os x).0 (after s l os x).1
@@ -79,21 +86,14 @@ module _ (s : Setting) where
 
   -- ---- what stands before a value
 
-  -- a query before its next clause, behind a conjunction
-  abbrev joined_to : Option ℕ → Bool → List Clause → Option Op → Level
-  joined_to f n cs j = record (fresh f n cs) { conj = j }
-
-  abbrev signed : Option ℕ → Bool → List Clause → Option Op → Option Sign → Level
-  signed f n cs j m = record (joined_to f n cs j) { sign = m }
-
-  conjunction_is : (j : Option Conjunction) (f : Option ℕ) (n : Bool) (cs : List Clause) (os : List Level)
+  pub conjunction_is : (j : Option Conjunction) (f : Option ℕ) (n : Bool) (cs : List Clause) (os : List Level)
       → behind_all s (fresh f n cs) os (conjunction j) ≡ (joined_to f n cs (conjunction_op j), os)
   unfolding after
   conjunction_is None f n cs os = refl
   conjunction_is (Some (both behind)) f n cs os = refl
   conjunction_is (Some (either behind)) f n cs os = refl
 
-  modifier_is : (m : Option Modifier) (f : Option ℕ) (n : Bool) (cs : List Clause) (j : Option Op) (os : List Level)
+  pub modifier_is : (m : Option Modifier) (f : Option ℕ) (n : Bool) (cs : List Clause) (j : Option Op) (os : List Level)
       → behind_all s (joined_to f n cs j) os (modifier m) ≡ (signed f n cs j (modifier_sign m), os)
   unfolding after
   modifier_is None f n cs j os = refl
@@ -113,7 +113,7 @@ module _ (s : Setting) where
   mutual
     unfolding query_leaves query_clauses after
 
-    query_is : (q : QueryForm) (f : Option ℕ) (n : Bool) (cs : List Clause) (os : List Level)
+    pub query_is : (q : QueryForm) (f : Option ℕ) (n : Bool) (cs : List Clause) (os : List Level)
         → behind_all s (fresh f n cs) os (query_leaves q) ≡ more f n cs (query_clauses s (record { field = f; named = n }) q) os
     query_is (first c) f n cs os = clause_is c f n cs None os
     query_is (next q j c) f n cs os =
