@@ -1,6 +1,6 @@
 -- Lexemes that can stand from the beginning to the end of a text are the leaves of a tree.
-use Rattle.std.proofs.Common.{◌≡◌, ◌++◌, ◌∷◌, [], ℕ, List, Bool, true, false, not, Option, None, Some, length, refl, ap, sym, subst, ◌∙◌}
-use Rattle.std.specs.Prelude.{◌==◌, ◌&&◌, is_none}
+use Rattle.std.proofs.Common.{◌≡◌, ◌++◌, ◌∷◌, [], ℕ, List, Bool, true, false, Option, None, Some, length, refl, ap, sym, subst, ◌∙◌}
+use Rattle.std.specs.Prelude.{◌==◌, is_none}
 use Rattle.std.proofs.lemmas.Bool.{and_parts, not-true, false_from_ne_true, false≢true, true≢false}
 use Rattle.std.proofs.lemmas.List.{append_assoc, append-nil}
 use Rattle.query_tree.specs.declared.query.Query.{Query}
@@ -10,7 +10,7 @@ use Rattle.query_lexemes.specs.declared.lexeme.Operator.TheVariants as operator
 use Rattle.query_text.specs.declared.op.Op.{Op}
 use Rattle.query_text.specs.Levels.{is_here, is_own, begins, is_between, joins, top, inside, put}
 use Rattle.query_text.specs.Reads.{Setting, sign_of, after, is_finish}
-use Rattle.query_grammar.specs.Forms.{Conjunction, both, either, Modifier, sign, negation, FieldForm, name, any, word, prefix, quoted, star, range, QueryForm, first, next, ClauseForm, clause, body, ValueForm, single, group, TextForm, blank, query, conjunction, modifier, field, query_leaves, clause_leaves, body_leaves, value_leaves, leaves, AreOfForms}
+use Rattle.query_grammar.specs.Forms.{Conjunction, both, either, Modifier, sign, negation, FieldForm, name, any, word, prefix, quoted, star, range, QueryForm, ClauseForm, ValueForm, single, group, TextForm, blank, query, conjunction, modifier, field, query_leaves, clause_leaves, body_leaves, value_leaves, leaves, AreOfForms}
 use Rattle.query_grammar.specs.Fitting.{TypeOf, Level, stands, AllStand}
 use Rattle.query_grammar.proofs.Parts.{Past, nothing, some, past_leaves, Part, part_leaves, all_leaves, with_clause, put_value}
 use Rattle.query_grammar.proofs.Standing.{not_empty, some_clauses}

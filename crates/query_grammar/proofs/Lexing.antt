@@ -1,11 +1,10 @@
 -- What lexemes are: each but the last takes a letter, a flaw is wrong, and behind an operator without a place of its own
 -- stands a lexeme that is wrong.
-use Rattle.std.proofs.Common.{◌≡◌, ◌+◌, ◌≤◌, ◌<◌, ◌∷◌, [], ℕ, zero, suc, List, Bool, true, false, not, cond, Option, None, Some, Result, Ok, Err, length, drop, refl, codes, sym, subst, ◌∙◌, arith, ⊎_elim, length-drop}
-use Rattle.std.specs.Prelude.{◌||◌, ◌&&◌, ◌==◌, is_some, if◌then◌else◌}
+use Rattle.std.proofs.Common.{◌≡◌, ◌+◌, ◌≤◌, ◌<◌, ◌∷◌, [], ℕ, zero, suc, List, Bool, true, false, not, cond, Option, None, Some, Result, Ok, Err, length, refl, sym, subst, ◌∙◌, arith, ⊎_elim, length-drop}
+use Rattle.std.specs.Prelude.{◌||◌, ◌==◌, is_some, if◌then◌else◌}
 use Rattle.std.specs.Option.{option_map_or}
 use Rattle.std.specs.List.{prefix_len}
 use Rattle.std.proofs.lemmas.Bool.{and_parts, and_left, or_cases, true≢false, false≢true, not-true, eqb-true}
-use Rattle.field_schema.specs.Bytes.{bytes_eq}
 use Rattle.query_lexemes.specs.declared.letter.Letter.{Letter}
 use Rattle.query_lexemes.specs.declared.fault.QueryFault.{QueryFault}
 use Rattle.query_lexemes.specs.declared.fault.QueryFault.TheVariants as fault
@@ -14,8 +13,8 @@ use Rattle.query_lexemes.specs.declared.lexeme.What.{What}
 use Rattle.query_lexemes.specs.declared.lexeme.What.TheVariants as what
 use Rattle.query_lexemes.specs.declared.lexeme.Operator.{Operator}
 use Rattle.query_lexemes.specs.declared.lexeme.Bound.{Bound}
-use Rattle.query_lexemes.specs.Letters.{stands, is_blank, goes_on, begins_word, is_unsupported, is_lone, belongs, run, past, skip, at_front, text_of, has_escape}
-use Rattle.query_lexemes.specs.Lexemes.{right, wrong, place, tail, operator_of, is_filter, behind, prefix, plain_word, word, star, quoted, run_text, quoted_bound, run_bound, bound, between, range_close, range_to, range_between, range_from, range, special, lexeme, lexemes}
+use Rattle.query_lexemes.specs.Letters.{stands, is_blank, goes_on, begins_word, is_unsupported, is_lone, belongs, run, past, skip, at_front, text_of}
+use Rattle.query_lexemes.specs.Lexemes.{right, wrong, place, tail, operator_of, is_filter, behind, prefix, plain_word, word, star, quoted, quoted_bound, run_bound, bound, between, range_close, range_to, range_between, range_from, range, special, lexeme, lexemes}
 use Rattle.query_lexemes.proofs.LexemeTexts.{Holds, NextWrong, Follows}
 use Rattle.query_text.specs.Reads.{is_finish}
 

@@ -1,32 +1,20 @@
 -- What is read behind the leaves of a tree is what the tree means.
-use Rattle.std.proofs.Common.{◌≡◌, ◌+◌, ◌++◌, ◌∷◌, [], ℕ, List, Bool, true, false, Option, None, Some, Result, Ok, Err, length, refl, ap, sym, subst, ◌∙◌, arith}
-use Rattle.std.specs.Prelude.{if◌then◌else◌, option_map}
+use Rattle.std.proofs.Common.{◌≡◌, ◌++◌, ◌∷◌, [], ℕ, List, Bool, true, false, Option, None, Some, refl, ap, ◌∙◌}
+use Rattle.std.specs.Prelude.{option_map}
 use Rattle.std.specs.Option.{option_map_or}
-use Rattle.std.specs.Result.{result_ok}
 use Rattle.std.proofs.lemmas.List.{append_assoc}
-use Rattle.field_schema.specs.declared.field.Field.{Field}
 use Rattle.query_tree.specs.declared.query.Query.{Query}
 use Rattle.query_tree.specs.declared.query.Query.TheVariants as every
-use Rattle.query_lexemes.specs.declared.fault.QueryFault.{QueryFault}
-use Rattle.query_lexemes.specs.declared.letter.Letter.{Letter}
-use Rattle.query_lexemes.specs.declared.local.Local.{Local}
-use Rattle.query_lexemes.specs.declared.lexeme.Lexeme.{Lexeme}
 use Rattle.query_lexemes.specs.declared.lexeme.What.{What}
 use Rattle.query_lexemes.specs.declared.lexeme.What.TheVariants as what
-use Rattle.query_lexemes.specs.Letters.{letters as letters_of}
-use Rattle.query_lexemes.specs.Lexemes.{lexemes}
-use Rattle.query_lexemes.specs.Local.{local, behind_mark}
 use Rattle.query_text.specs.declared.op.Op.{Op}
-use Rattle.query_text.specs.declared.reader.Parsed.{Parsed}
 use Rattle.query_text.specs.Clauses.{joined}
 use Rattle.query_text.specs.Levels.{field_for, is_explicit, top, inside, put}
 use Rattle.query_text.specs.Readings.{kind_at, words_in, star as star_of, value_in}
-use Rattle.query_text.specs.Reads.{Setting, value, after, is_finish, read_from, query_of, with_local, no_local, behind_local, letters_reading}
-use Rattle.query_grammar.specs.Forms.{Conjunction, both, either, Modifier, sign, negation, FieldForm, name, any, Single, word, prefix, quoted, star, range, QueryForm, first, next, ClauseForm, clause, BodyForm, body, ValueForm, single, group, TextForm, blank, query, conjunction, modifier, field, lexeme, query_leaves, clause_leaves, body_leaves, value_leaves, leaves}
+use Rattle.query_text.specs.Reads.{Setting, value, after}
+use Rattle.query_grammar.specs.Forms.{Conjunction, both, either, Modifier, sign, negation, name, any, Single, word, prefix, quoted, star, range, QueryForm, first, next, ClauseForm, clause, BodyForm, body, ValueForm, single, group, TextForm, blank, query, conjunction, modifier, lexeme, query_leaves, clause_leaves, body_leaves, value_leaves, leaves}
 use Rattle.query_grammar.specs.Fitting.{Level, behind_all}
-use Rattle.query_grammar.specs.Meaning.{Place, behind_field, single_query, conjunction_op, Sign, modifier_sign, Clause, query_clauses, clause_of, body_query, value_query, meaning}
-use Rattle.query_grammar.specs.Laws.{TextsMean}
-use Rattle.query_grammar.proofs.Texts.{text_value}
+use Rattle.query_grammar.specs.Meaning.{Place, single_query, conjunction_op, Sign, modifier_sign, Clause, query_clauses, clause_of, body_query, value_query, meaning}
 
 -- what is read without a field
 abbrev pub all_docs : Query
@@ -144,15 +132,9 @@ module _ (s : Setting) where
         onward (query_leaves q) (what.Closing ∷ []) (inside l) (fresh (field_for l) (is_explicit l) (query_clauses s (place_of l) q)) (l ∷ os) (l ∷ os) _
         (query_is q (field_for l) (is_explicit l) [] (l ∷ os)) refl
 
-  text_is : (t : TextForm) (df : Option ℕ) → joined s.op (behind_all s (top df) [] (leaves t)).0.clauses ≡ meaning s df t
+  pub text_is : (t : TextForm) (df : Option ℕ) → joined s.op (behind_all s (top df) [] (leaves t)).0.clauses ≡ meaning s df t
   unfolding after
   text_is blank df = refl
   text_is (query q) df =
       ap (λ (p : Level × List Level). joined s.op p.0.clauses)
       (onward (query_leaves q) (what.Finish ∷ []) (top df) (fresh df false (query_clauses s (record { field = df; named = false }) q)) [] [] _ (query_is q df false [] []) refl)
-
-pub texts_mean : (s : Setting) (most : ℕ) (df : Option ℕ) → TextsMean s most df
-texts_mean s most df text q =
-    text_value s most df text q
-    ∙ ap (λ (r : Query). Some r)
-    (ap (λ (ws : List What). joined s.op (behind_all s (top df) [] ws).0.clauses) (sym q.query.forms.1) ∙ text_is s q.query.forms.0 df)

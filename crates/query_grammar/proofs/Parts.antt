@@ -1,5 +1,5 @@
 -- Parts of queries: what was read of a query, and of those that it is inside.
-use Rattle.std.proofs.Common.{◌++◌, ◌∷◌, [], List, Option, None, Some}
+use Rattle.std.proofs.Common.{◌++◌, ◌∷◌, [], List, Option, None}
 use Rattle.query_lexemes.specs.declared.lexeme.What.{What}
 use Rattle.query_lexemes.specs.declared.lexeme.What.TheVariants as what
 use Rattle.query_grammar.specs.Forms.{Conjunction, Modifier, FieldForm, QueryForm, first, next, ClauseForm, clause, body, ValueForm, conjunction, modifier, field, query_leaves}

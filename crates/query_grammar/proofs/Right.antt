@@ -1,29 +1,33 @@
 -- The lexemes of a tree tell no other fault exactly where the tree is right.
-use Rattle.std.proofs.Common.{◌≡◌, ◌+◌, ◌<◌, ◌≤◌, ◌++◌, ◌∷◌, [], ℕ, suc, List, Bool, true, false, not, Option, None, Some, length, map, refl, ap, sym, subst, ◌∙◌, ⊎_elim, arith, length-append}
+use Rattle.std.proofs.Common.{◌≡◌, ◌<◌, ◌≤◌, ◌++◌, ◌∷◌, [], ℕ, suc, List, Bool, true, false, not, Option, None, Some, Result, Ok, length, refl, ap, sym, ◌∙◌, ⊎_elim, arith, length-append}
 use Rattle.std.specs.Prelude.{◌&&◌, ◌||◌, nat_lt, nat_le, is_none, is_some, option_map}
-use Rattle.std.specs.Option.{option_map_or}
-use Rattle.std.proofs.lemmas.Bool.{and_parts, and_from, and_right, not-true, not_from_false, cases_lt, lt-ltb, le-ltb, lt-leb, le-leb, true≢false}
-use Rattle.std.proofs.lemmas.List.{append_assoc}
+use Rattle.std.specs.List.{AllByRecursion}
+use Rattle.std.specs.Result.{IsOk}
+use Rattle.std.proofs.lemmas.Bool.{and_parts, and_from, and_right, not-true, cases_lt, lt-ltb, le-ltb, lt-leb, le-leb, true≢false}
 use Rattle.std.proofs.Math.Bool.{and_assoc, and-true}
 use Rattle.field_schema.specs.declared.field.Field.{Field}
 use Rattle.field_schema.specs.declared.field.FieldType.{FieldType}
 use Rattle.query_tree.specs.declared.query.Query.{Query}
 use Rattle.query_lexemes.specs.declared.fault.QueryFault.{QueryFault}
+use Rattle.query_lexemes.specs.declared.letter.Letter.{Letter}
 use Rattle.query_lexemes.specs.declared.lexeme.Lexeme.{Lexeme}
 use Rattle.query_lexemes.specs.declared.lexeme.What.{What}
 use Rattle.query_lexemes.specs.declared.lexeme.What.TheVariants as what
 use Rattle.query_lexemes.specs.declared.lexeme.Bound.{Bound}
 use Rattle.query_text.specs.declared.op.Op.{Op}
+use Rattle.query_text.specs.Clauses.{joined}
 use Rattle.query_text.specs.Levels.{field_for, is_explicit, begins, top, inside}
 use Rattle.query_text.specs.Readings.{indexed, kind_at, kind_for, value_text, words_in, words_of}
 use Rattle.query_text.specs.Faults.{fault_if, needs_field, is_unknown, unknown_field, is_long, is_no_number, bad_number, from_of, to_of, bad_bound, is_whole, is_prefix, unsupported, most_deep, is_opening, is_several, too_deep, begins_clause, too_many}
 use Rattle.query_text.specs.Reads.{Setting, after}
-use Rattle.query_grammar.specs.Forms.{Conjunction, both, either, Modifier, sign, negation, FieldForm, name, any, Single, word, prefix, quoted, star, range, QueryForm, first, next, ClauseForm, clause, BodyForm, body, ValueForm, single, group, TextForm, blank, query, conjunction, modifier, field, lexeme, query_leaves, clause_leaves, body_leaves, value_leaves, leaves}
+use Rattle.query_grammar.specs.Forms.{Conjunction, both, either, sign, negation, FieldForm, name, any, Single, word, prefix, quoted, star, range, QueryForm, first, next, ClauseForm, clause, BodyForm, body, ValueForm, single, group, TextForm, blank, query, conjunction, modifier, field, lexeme, query_leaves, clause_leaves, body_leaves, value_leaves, leaves}
 use Rattle.query_grammar.specs.Fitting.{Level, behind_all}
-use Rattle.query_grammar.specs.Texts.{whats, IsRight, AllRight}
-use Rattle.query_grammar.specs.Meaning.{Place, behind_field, conjunction_op, Sign, modifier_sign, Clause, query_clauses}
-use Rattle.query_grammar.specs.Right.{field_right, in_known, fits, has_room, single_right, clause_count, clauses_right, clause_right, body_right, value_right, text_right}
-use Rattle.query_grammar.proofs.Meaning.{place_of, fresh, joined_to, signed, behind_append, conjunction_is, modifier_is, query_is}
+use Rattle.query_grammar.specs.Texts.{lexemes_of, whats, IsRight, AllRight, AreOfQuery, LettersMean, IsOfQuery}
+use Rattle.query_grammar.specs.Meaning.{Place, conjunction_op, Sign, modifier_sign, Clause, query_clauses, meaning}
+use Rattle.query_grammar.specs.Right.{field_right, fits, single_right, clause_count, clauses_right, clause_right, body_right, value_right, text_right}
+use Rattle.query_grammar.specs.Laws.{LettersReadTo, TextsReadTo}
+use Rattle.query_grammar.proofs.Meaning.{place_of, fresh, joined_to, signed, conjunction_is, modifier_is, query_is, text_is}
+use Rattle.query_grammar.proofs.Texts.{letters_there, letters_value, parsed, text_there, text_value}
 
 -- ---- tests
 
@@ -146,10 +150,13 @@ next_tests a c k most = ⊎_elim below above (cases_lt k most)
   where
     full : (a c : Bool) → ((a && true) && (true && (not false && c))) ≡ ((a && c) && true)
     full a c = grind arith
+
     none : (a c x : Bool) → ((a && x) && (true && (not true && c))) ≡ ((a && c) && false)
     none a c x = grind arith
+
     below : k < most → ((a && nat_le k most) && (true && (not (nat_le most k) && c))) ≡ ((a && c) && nat_le (suc k) most)
     below h = rw (le-leb k most (omega arith), lt-leb most k h, le-leb (suc k) most h) (full a c)
+
     above : most ≤ k → ((a && nat_le k most) && (true && (not (nat_le most k) && c))) ≡ ((a && c) && nat_le (suc k) most)
     above h = rw (le-leb most k h, lt-leb (suc k) most (omega arith)) (none a c (nat_le k most))
 
@@ -305,3 +312,74 @@ module _ (s : Setting) (most : ℕ) where
       onward (query_leaves q) (what.Finish ∷ []) (top df) (fresh df false (query_clauses s (record { field = df; named = false }) q)) [] [] _ _
       (query_is s q df false [] []) (query_fine q df false []) (idle_tests (is_long (om df)) (nat_le most_deep 0))
       ∙ and-true _
+
+  -- ---- lexemes
+
+  abbrev AllThemselves : List Lexeme → Type 0
+  AllThemselves xs = AllByRecursion (λ x. x.wrong ≡ None) xs
+
+  pub all_from : (xs : List Lexeme) (l : Level) (os : List Level) → AllRight s most l os xs → AllThemselves xs × (all_fine l os (whats xs) ≡ true)
+  all_from [] l os r = (tt, refl)
+  all_from (x ∷ xs) l os r =
+      let m : AllThemselves xs × _ = all_from xs (after s l os x.what).0 (after s l os x.what).1 r.1 in
+      ((r.0.itself, m.0), and_from _ _ (right_fine s.fields most l os x r.0) m.1)
+
+  pub all_right : (xs : List Lexeme) (l : Level) (os : List Level) → AllThemselves xs → all_fine l os (whats xs) ≡ true → AllRight s most l os xs
+  all_right [] l os n h = tt
+  all_right (x ∷ xs) l os n h =
+      let p = and_parts _ _ h in
+      (fine_right s.fields most l os x n.0 p.0, all_right xs (after s l os x.what).0 (after s l os x.what).1 n.1 p.1)
+
+-- ---- letters and texts
+
+module _ (s : Setting) (most : ℕ) (df : Option ℕ) where
+  abbrev value_of : ℕ → List Letter → Query
+  value_of end ls = joined s.op (behind_all s (top df) [] (whats (lexemes_of end ls))).0.clauses
+
+  value_is : (end : ℕ) (ls : List Letter) (t : TextForm) → leaves t ≡ whats (lexemes_of end ls) → value_of end ls ≡ meaning s df t
+  value_is end ls t h = ap (λ (ws : List What). joined s.op (behind_all s (top df) [] ws).0.clauses) (sym h) ∙ text_is s t df
+
+  means_from : (end : ℕ) (ls : List Letter) (q : Query) → AreOfQuery s most df end ls → q ≡ value_of end ls → LettersMean s most df end ls q
+  means_from end ls q a h =
+      let r : AllThemselves s most (lexemes_of end ls) × (all_fine s most (top df) [] (whats (lexemes_of end ls)) ≡ true) =
+      all_from s most (lexemes_of end ls) (top df) [] a.right in
+      record {
+        tree = a.forms.0;
+        leaves = a.forms.1;
+        itself = r.0;
+        right = sym (text_fine s most a.forms.0 df) ∙ (ap (all_fine s most (top df) []) a.forms.1 ∙ r.1);
+        means = h ∙ value_is end ls a.forms.0 a.forms.1;
+      }
+
+  are_from : (end : ℕ) (ls : List Letter) (q : Query) → LettersMean s most df end ls q → AreOfQuery s most df end ls
+  are_from end ls q m = record {
+    forms = (m.tree, m.leaves);
+    right = all_right s most (lexemes_of end ls) (top df) [] m.itself
+        (ap (all_fine s most (top df) []) (sym m.leaves) ∙ (text_fine s most m.tree df ∙ m.right));
+  }
+
+  ok_same : (a b : Query) → ◌≡◌ {A = Result Query QueryFault} (Ok a) (Ok b) → a ≡ b
+  ok_same a b h = cc h
+
+  ok_is : (r : Result Query QueryFault) (q : Query) → r ≡ Ok q → IsOk r
+  ok_is r q h = rw h refl
+
+  pub letters_read_to : LettersReadTo s most df
+  letters_read_to end ls q = (
+    λ h. let a : AreOfQuery s most df end ls = letters_there s most df end ls (ok_is _ q h) in
+        means_from end ls q a (ok_same _ _ (sym h ∙ letters_value s most df end ls a)),
+    λ m. letters_value s most df end ls (are_from end ls q m)
+        ∙ ap (λ (r : Query). Ok r) (value_is end ls m.tree m.leaves ∙ sym m.means),
+  )
+
+  pub texts_read_to : TextsReadTo s most df
+  texts_read_to text q = (
+    λ h. let i : IsOfQuery s most df text = text_there s most df text (parsed s most df _ q h) in
+        record {
+          letters = i.letters;
+          behind = i.behind;
+          query = means_from (length text) i.letters q i.query (cc (h, text_value s most df text i));
+        },
+    λ m. text_value s most df text (record { letters = m.letters; behind = m.behind; query = are_from (length text) m.letters q m.query })
+        ∙ ap (λ (r : Query). Some r) (value_is (length text) m.letters m.query.tree m.query.leaves ∙ sym m.query.means),
+  )

@@ -1,5 +1,5 @@
 -- The leaves of a tree of the forms can stand one behind another.
-use Rattle.std.proofs.Common.{◌≡◌, ◌++◌, ◌∷◌, [], ℕ, List, Bool, true, false, not, Option, None, Some, length, refl, ap, sym, subst, suc, arith}
+use Rattle.std.proofs.Common.{◌≡◌, ◌++◌, ◌∷◌, [], ℕ, List, true, false, not, Option, None, Some, length, refl, ap, sym, subst, suc, arith}
 use Rattle.std.specs.Prelude.{◌==◌}
 use Rattle.std.proofs.lemmas.Bool.{and_parts, and_from, ne_eqb, false≢true}
 use Rattle.std.proofs.lemmas.List.{append_assoc}

@@ -1,10 +1,9 @@
 -- A text reads exactly where its lexemes are the leaves of a tree and tell no other fault.
-use Rattle.std.proofs.Common.{◌≡◌, ◌+◌, ◌++◌, ◌∷◌, [], ℕ, List, Bool, true, false, not, Option, None, Some, Result, Ok, Err, length, refl, ap, sym, subst, ◌∙◌, ◌⊎◌, inl, inr, ⊎_elim, arith}
-use Rattle.std.specs.Prelude.{◌==◌, ◌||◌, ◌&&◌, is_none, is_some, if◌then◌else◌, option_map}
+use Rattle.std.proofs.Common.{◌≡◌, ◌+◌, ◌++◌, ◌∷◌, [], ℕ, List, Bool, true, false, not, Option, None, Some, Result, Ok, Err, length, refl, ap, sym, subst, ◌∙◌, ◌⊎◌, inl, inr, arith}
+use Rattle.std.specs.Prelude.{◌==◌, is_none, is_some, if◌then◌else◌, option_map}
 use Rattle.std.specs.Option.{option_map_or}
-use Rattle.std.specs.Result.{result_ok}
+use Rattle.std.specs.Result.{is_ok, IsOk}
 use Rattle.std.proofs.lemmas.Bool.{or_parts, or_from, and_parts, and_from, not-true, not-false, not_from_true, not_from_false, false≢true, true≢false}
-use Rattle.field_schema.specs.declared.field.Field.{Field}
 use Rattle.query_tree.specs.declared.query.Query.{Query}
 use Rattle.query_lexemes.specs.declared.fault.QueryFault.{QueryFault}
 use Rattle.query_lexemes.specs.declared.fault.QueryFault.TheVariants as fault
@@ -13,15 +12,14 @@ use Rattle.query_lexemes.specs.declared.local.Local.{Local}
 use Rattle.query_lexemes.specs.declared.lexeme.Lexeme.{Lexeme}
 use Rattle.query_lexemes.specs.declared.lexeme.What.{What}
 use Rattle.query_lexemes.specs.declared.lexeme.What.TheVariants as what
-use Rattle.query_lexemes.specs.declared.lexeme.Operator.{Operator}
 use Rattle.query_lexemes.specs.Letters.{letters as letters_of}
 use Rattle.query_lexemes.specs.Lexemes.{lexemes}
 use Rattle.query_lexemes.specs.Local.{local, behind_mark}
 use Rattle.query_lexemes.proofs.LexemeTexts.{NextWrong, Follows}
 use Rattle.query_text.specs.declared.reader.Parsed.{Parsed}
 use Rattle.query_text.specs.Clauses.{joined}
-use Rattle.query_text.specs.Levels.{top, is_here, begins, is_between, joins}
-use Rattle.query_text.specs.Faults.{fault_if, least, told, told_with, operator_fits, syntax}
+use Rattle.query_text.specs.Levels.{top, joins}
+use Rattle.query_text.specs.Faults.{fault_if, least, told, told_with, syntax}
 use Rattle.query_text.specs.Reads.{Setting, after, is_finish, read_from, query_of, with_local, no_local, behind_local, letters_reading}
 use Rattle.query_text.proofs.Steps.{IsUntold}
 use Rattle.query_text.proofs.Reading.{untold_from}
@@ -96,7 +94,7 @@ finish_is w h = absurd (false≢true h)
 -- ---- lexemes
 
 abbrev reads : Result Query QueryFault → Type 0
-reads r = is_some (result_ok r) ≡ true
+reads r = IsOk r
 
 turn : (o : Option QueryFault) (r : Result Query QueryFault) → reads (option_map_or Err o r) → (o ≡ None) × reads r
 turn None r h = (refl, h)
@@ -205,13 +203,13 @@ module _ (s : Setting) (most : ℕ) (df : Option ℕ) where
   ended : (end : ℕ) (ls : List Letter) → Ended (lexemes (length ls + 1) end ls)
   ended end ls = lexemes_end (length ls + 1) end ls (omega arith)
 
-  letters_there : (end : ℕ) (ls : List Letter) → reads (query_of s most df end ls) → AreOfQuery s most df end ls
+  pub letters_there : (end : ℕ) (ls : List Letter) → reads (query_of s most df end ls) → AreOfQuery s most df end ls
   unfolding query_of lexemes_of
   letters_there end ls h =
       let r : AreRight s most (top df) [] (lexemes_of end ls) = reads_right s most (lexemes (length ls + 1) end ls) (top df) [] (ended end ls) h in
       record { forms = forms_of s df (whats (lexemes_of end ls)) (has_end (lexemes (length ls + 1) end ls) (ended end ls)) r.0; right = r.1 }
 
-  letters_value : (end : ℕ) (ls : List Letter) → AreOfQuery s most df end ls
+  pub letters_value : (end : ℕ) (ls : List Letter) → AreOfQuery s most df end ls
       → query_of s most df end ls ≡ Ok (clauses_read s most (top df) [] (whats (lexemes_of end ls)))
   unfolding query_of lexemes_of
   letters_value end ls q =
@@ -219,16 +217,16 @@ module _ (s : Setting) (most : ℕ) (df : Option ℕ) where
       (subst (AllStand s (top df) []) q.forms.1 (text_stands s q.forms.0 df), q.right)
 
   pub letters_read : LettersRead s most df
-  letters_read end ls = (letters_there end ls, λ q. ap (λ (r : Result Query QueryFault). is_some (result_ok r)) (letters_value end ls q))
+  letters_read end ls = (letters_there end ls, λ q. ap (λ (r : Result Query QueryFault). is_ok r) (letters_value end ls q))
 
   abbrev parses : Result Parsed QueryFault → Type 0
-  parses r = is_some (result_ok r) ≡ true
+  parses r = IsOk r
 
   local_there : (p : Local) (r : Result Query QueryFault) → parses (with_local p r) → reads r
   local_there p (Ok q) h = refl
   local_there p (Err e) h = absurd (false≢true h)
 
-  parsed : (r : Result Parsed QueryFault) (q : Query) → query_read r ≡ Some q → parses r
+  pub parsed : (r : Result Parsed QueryFault) (q : Query) → query_read r ≡ Some q → parses r
   parsed (Ok p) q h = refl
   parsed (Err e) q h = absurd (cc h)
 
@@ -264,7 +262,7 @@ module _ (s : Setting) (most : ℕ) (df : Option ℕ) where
         rw g refl
     mark_value (Some params) all ls q e h = items_value (local end params) ls q e h
 
-  text_there : (text : List ℕ) → parses (letters_reading s most df (length text) (letters_of text)) → IsOfQuery s most df text
+  pub text_there : (text : List ℕ) → parses (letters_reading s most df (length text) (letters_of text)) → IsOfQuery s most df text
   unfolding letters_reading
   text_there text h =
       let f : Found (length text) (query_letters (length text) (letters_of text)) = mark_there (length text) (behind_mark (letters_of text)) (letters_of text) h in

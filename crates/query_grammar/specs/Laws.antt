@@ -1,7 +1,8 @@
 -- Laws of reading, by the forms. A list of lexemes stands for what they are.
-use Rattle.std.specs.Prelude.{ℕ, ◌≡◌, ◌↔◌, List, [], ◌∷◌, ◌++◌, Bool, true, false, Option, Some, is_some}
+use Rattle.std.specs.Prelude.{ℕ, ◌≡◌, ◌↔◌, List, [], ◌∷◌, ◌++◌, false, Option, Some, Ok}
 use Rattle.std.specs.List.{list_any}
-use Rattle.std.specs.Result.{result_ok}
+use Rattle.std.specs.Result.{IsOk}
+use Rattle.query_tree.specs.declared.query.Query.{Query}
 use Rattle.query_lexemes.specs.declared.letter.Letter.{Letter}
 use Rattle.query_lexemes.specs.declared.lexeme.What.{What}
 use Rattle.query_lexemes.specs.declared.lexeme.What.TheVariants as what
@@ -9,8 +10,7 @@ use Rattle.query_text.specs.Levels.{top}
 use Rattle.query_text.specs.Reads.{Setting, is_finish, query_of, reading}
 use Rattle.query_grammar.specs.Forms.{TextForm, leaves, AreOfForms}
 use Rattle.query_grammar.specs.Fitting.{stands, AllStand, behind_all}
-use Rattle.query_grammar.specs.Texts.{AreOfQuery, IsOfQuery, query_read}
-use Rattle.query_grammar.specs.Meaning.{meaning}
+use Rattle.query_grammar.specs.Texts.{AreOfQuery, LettersMean, IsOfQuery, TextMeans, query_read}
 
 -- lexemes can stand from the beginning to the end of a text exactly where they are those of a tree
 abbrev pub StandingIsForms : Setting → Option ℕ → Type 0
@@ -26,21 +26,23 @@ abbrev pub NothingGoesOn : Setting → Option ℕ → Type 0
 NothingGoesOn s df = (ws rest : List What) (w : What)
     → stands (behind_all s (top df) [] ws).0 (behind_all s (top df) [] ws).1 w ≡ false → AreOfForms (ws ++ w ∷ rest) → ⊥
 
--- letters read exactly where they are of the forms, and each lexeme is right
-abbrev pub LettersRead : Setting → ℕ → Option ℕ → Type 0
-LettersRead s most df = (end : ℕ) (ls : List Letter)
-    → is_some (result_ok (query_of s most df end ls)) ≡ true ↔ AreOfQuery s most df end ls
-
--- a text reads exactly where its query does
-abbrev pub TextsRead : Setting → ℕ → Option ℕ → Type 0
-TextsRead s most df = (text : List ℕ)
-    → is_some (result_ok (reading s.fields df s.op most text)) ≡ true ↔ IsOfQuery s most df text
-
--- a text that is of a tree, and right, reads to the meaning of this tree
-abbrev pub TextsMean : Setting → ℕ → Option ℕ → Type 0
-TextsMean s most df = (text : List ℕ) (q : IsOfQuery s most df text)
-    → query_read (reading s.fields df s.op most text) ≡ Some (meaning s df q.query.forms.0)
-
 -- no two trees have the same leaves
 abbrev pub OneTree : Type 0
 OneTree = (t u : TextForm) → leaves t ≡ leaves u → t ≡ u
+
+-- letters read exactly where they are of the forms, and each lexeme is right
+abbrev pub LettersRead : Setting → ℕ → Option ℕ → Type 0
+LettersRead s most df = (end : ℕ) (ls : List Letter) → IsOk (query_of s most df end ls) ↔ AreOfQuery s most df end ls
+
+-- a text reads exactly where its query does
+abbrev pub TextsRead : Setting → ℕ → Option ℕ → Type 0
+TextsRead s most df = (text : List ℕ) → IsOk (reading s.fields df s.op most text) ↔ IsOfQuery s most df text
+
+-- letters read to a query exactly where a right tree whose leaves they are means it
+abbrev pub LettersReadTo : Setting → ℕ → Option ℕ → Type 0
+LettersReadTo s most df = (end : ℕ) (ls : List Letter) (q : Query) → query_of s most df end ls ≡ Ok q ↔ LettersMean s most df end ls q
+
+-- a text reads to a query exactly where its letters behind local parameters do
+abbrev pub TextsReadTo : Setting → ℕ → Option ℕ → Type 0
+TextsReadTo s most df = (text : List ℕ) (q : Query)
+    → query_read (reading s.fields df s.op most text) ≡ Some q ↔ TextMeans s most df text q

@@ -1,7 +1,7 @@
 pub mod Forms
 pub mod Fitting
-pub mod Texts
 pub mod Meaning
 pub mod Right
+pub mod Texts
 pub mod Laws
 pub mod Trials

@@ -1,5 +1,6 @@
 -- Which texts read, by the forms.
-use Rattle.std.specs.Prelude.{ℕ, ◌≡◌, ◌+◌, List, [], ◌∷◌, length, map, Bool, true, false, if◌then◌else◌, Option, Some, None, option_map, Result, Ok, Err}
+use Rattle.std.specs.Prelude.{ℕ, ◌≡◌, ◌+◌, List, [], ◌∷◌, length, map, true, if◌then◌else◌, Option, Some, None, option_map, Result, Ok, Err}
+use Rattle.std.specs.List.{AllByRecursion}
 use Rattle.std.specs.Option.{option_map_or}
 use Rattle.std.specs.Result.{result_ok}
 use Rattle.field_schema.specs.declared.field.Field.{Field}
@@ -17,8 +18,10 @@ use Rattle.query_text.specs.Levels.{top}
 use Rattle.query_text.specs.Readings.{kind_for, words_of}
 use Rattle.query_text.specs.Faults.{unknown_field, bad_number, bad_bound, from_of, to_of, unsupported, too_deep, too_many}
 use Rattle.query_text.specs.Reads.{Setting, after, is_finish}
-use Rattle.query_grammar.specs.Forms.{AreOfForms}
+use Rattle.query_grammar.specs.Forms.{TextForm, leaves as leaves_of, AreOfForms}
 use Rattle.query_grammar.specs.Fitting.{Level}
+use Rattle.query_grammar.specs.Meaning.{meaning}
+use Rattle.query_grammar.specs.Right.{text_right}
 
 -- the first lexemes, up to the end of the text
 unfoldable pub up_to_finish : List Lexeme → List Lexeme
@@ -55,6 +58,14 @@ pub record AreOfQuery (s : Setting) (most : ℕ) (df : Option ℕ) (end : ℕ) (
   pub forms : AreOfForms (whats (lexemes_of end ls))
   pub right : AllRight s most (top df) [] (lexemes_of end ls)
 
+-- the lexemes of the letters are those of a right tree, which means the query, and nothing is wrong with them by themselves
+pub record LettersMean (s : Setting) (most : ℕ) (df : Option ℕ) (end : ℕ) (ls : List Letter) (q : Query) : Type 0 where
+  pub tree : TextForm
+  pub leaves : leaves_of tree ≡ whats (lexemes_of end ls)
+  pub itself : AllByRecursion (λ x. x.wrong ≡ None) (lexemes_of end ls)
+  pub right : text_right s.fields most df tree ≡ true
+  pub means : q ≡ meaning s df tree
+
 -- the letters behind local parameters
 abbrev pub behind_items : Result (Local × List Letter) ℕ → Option (List Letter)
 behind_items (Ok p) = Some p.1
@@ -69,6 +80,12 @@ pub record IsOfQuery (s : Setting) (most : ℕ) (df : Option ℕ) (text : List �
   pub letters : List Letter
   pub behind : query_letters (length text) (letters_of text) ≡ Some letters
   pub query : AreOfQuery s most df (length text) letters
+
+-- a text whose letters behind local parameters mean the query
+pub record TextMeans (s : Setting) (most : ℕ) (df : Option ℕ) (text : List ℕ) (q : Query) : Type 0 where
+  pub letters : List Letter
+  pub behind : query_letters (length text) (letters_of text) ≡ Some letters
+  pub query : LettersMean s most df (length text) letters q
 
 -- the query that a text reads to, where it does
 abbrev pub query_read : Result Parsed QueryFault → Option Query

@@ -1,6 +1,5 @@
 -- Short lists of lexemes on which the forms are tried.
-use Rattle.std.specs.Prelude.{◌≡◌, List, [], ◌∷◌, ◌++◌, true, false, Option, Some, None, codes}
-use Rattle.field_schema.specs.declared.field.Field.{Field}
+use Rattle.std.specs.Prelude.{List, [], ◌∷◌, ◌++◌, true, false, Some, None, codes}
 use Rattle.field_schema.specs.declared.field.FieldType.TheVariants as kind
 use Rattle.field_schema.specs.declared.key.Key.TheVariants as key
 use Rattle.query_tree.specs.declared.query.Query.{Query}

@@ -1,7 +1,7 @@
 //! Laws of the grammar. Each function does nothing: its clause is the law.
 ghost use Rattle.std.specs.Prelude.{ℕ, Option};
 ghost use Rattle.query_text.specs.Reads.{Setting};
-ghost use Rattle.query_grammar.specs.Laws.{LettersRead, NothingGoesOn, OneTree, StandingGoesOn, StandingIsForms, TextsMean, TextsRead};
+ghost use Rattle.query_grammar.specs.Laws.{LettersRead, LettersReadTo, NothingGoesOn, OneTree, StandingGoesOn, StandingIsForms, TextsRead, TextsReadTo};
 
 /// Lexemes can stand one behind another from the beginning of a text to its end exactly where they are the leaves of
 /// a tree of the forms, whatever the schema, the operator and the default field.
@@ -33,9 +33,10 @@ pub fn texts_of_the_forms_read()
     ensures texts { (s : Setting) (most : ℕ) (df : Option ℕ) → TextsRead s most df }
 {}
 
-/// A text reads to the meaning of the tree whose leaves its lexemes are: clauses with their conjunctions and modifiers
-/// are joined, values are read in the field that stands before them, or before a query that they are in, or in the
-/// default field, and a query in parentheses is a query.
-pub fn texts_read_to_the_meaning_of_their_trees()
-    ensures { (s : Setting) (most : ℕ) (df : Option ℕ) → TextsMean s most df }
+/// A text reads to a query exactly where its lexemes, behind its local parameters, are the leaves of a right tree of
+/// the forms that means this query, and nothing is wrong with one of them by itself. A tree is right where its fields
+/// are known, its values fit their fields, and the limits on parentheses and clauses are kept.
+pub fn texts_read_to_what_right_trees_mean()
+    ensures letters { (s : Setting) (most : ℕ) (df : Option ℕ) → LettersReadTo s most df }
+    ensures texts { (s : Setting) (most : ℕ) (df : Option ℕ) → TextsReadTo s most df }
 {}
