@@ -15,6 +15,7 @@ use Rattle.query_lexemes.specs.declared.lexeme.What.{What}
 use Rattle.query_lexemes.specs.declared.lexeme.What.TheVariants as what
 use Rattle.query_lexemes.specs.declared.lexeme.Bound.{Bound}
 use Rattle.query_text.specs.declared.op.Op.{Op}
+use Rattle.query_text.specs.declared.reader.Parsed.{Parsed}
 use Rattle.query_text.specs.Clauses.{joined}
 use Rattle.query_text.specs.Levels.{field_for, is_explicit, begins, top, inside}
 use Rattle.query_text.specs.Readings.{indexed, kind_at, kind_for, value_text, words_in, words_of}
@@ -27,7 +28,7 @@ use Rattle.query_grammar.specs.Meaning.{Place, conjunction_op, Sign, modifier_si
 use Rattle.query_grammar.specs.Right.{field_right, fits, single_right, clause_count, clauses_right, clause_right, body_right, value_right, text_right}
 use Rattle.query_grammar.specs.Laws.{LettersReadTo, TextsReadTo}
 use Rattle.query_grammar.proofs.Meaning.{place_of, fresh, joined_to, signed, conjunction_is, modifier_is, query_is, text_is}
-use Rattle.query_grammar.proofs.Texts.{letters_there, letters_value, parsed, text_there, text_value}
+use Rattle.query_grammar.proofs.Texts.{letters_there, letters_value, text_there, text_value}
 
 -- ---- tests
 
@@ -372,14 +373,30 @@ module _ (s : Setting) (most : ℕ) (df : Option ℕ) where
         ∙ ap (λ (r : Query). Ok r) (value_is end ls m.tree m.leaves ∙ sym m.means),
   )
 
+  ok_parsed : (p q : Parsed) → ◌≡◌ {A = Result Parsed QueryFault} (Ok p) (Ok q) → p ≡ q
+  ok_parsed p q h = cc h
+
+  parsed_ok : (r : Result Parsed QueryFault) (p : Parsed) → r ≡ Ok p → IsOk r
+  parsed_ok r p h = rw h refl
+
   pub texts_read_to : TextsReadTo s most df
-  texts_read_to text q = (
-    λ h. let i : IsOfQuery s most df text = text_there s most df text (parsed s most df _ q h) in
+  texts_read_to text p = (
+    λ h. let i : IsOfQuery s most df text = text_there s most df text (parsed_ok _ p h) in
+        let e : p ≡ record { query = value_of (length text) i.letters; cached = i.params.cached; cost = i.params.cost } =
+        ok_parsed _ _ (sym h ∙ text_value s most df text i) in
         record {
+          params = i.params;
           letters = i.letters;
           behind = i.behind;
-          query = means_from (length text) i.letters q i.query (cc (h, text_value s most df text i));
+          query = means_from (length text) i.letters p.query i.query (ap (λ (x : Parsed). x.query) e);
+          cached = ap (λ (x : Parsed). x.cached) e;
+          cost = ap (λ (x : Parsed). x.cost) e;
         },
-    λ m. text_value s most df text (record { letters = m.letters; behind = m.behind; query = are_from (length text) m.letters q m.query })
-        ∙ ap (λ (r : Query). Some r) (value_is (length text) m.letters m.query.tree m.query.leaves ∙ sym m.query.means),
+    λ m. text_value s most df text
+        (record { params = m.params; letters = m.letters; behind = m.behind; query = are_from (length text) m.letters p.query m.query })
+        ∙ λ k. Ok (record {
+          query = (value_is (length text) m.letters m.query.tree m.query.leaves ∙ sym m.query.means) k;
+          cached = sym m.cached k;
+          cost = sym m.cost k;
+        }),
   )

@@ -2,7 +2,7 @@
 use Rattle.std.proofs.Common.{◌≡◌, ◌+◌, ◌++◌, ◌∷◌, [], ℕ, List, Bool, true, false, not, Option, None, Some, Result, Ok, Err, length, refl, ap, sym, subst, ◌∙◌, ◌⊎◌, inl, inr, arith}
 use Rattle.std.specs.Prelude.{◌==◌, is_none, is_some, if◌then◌else◌, option_map}
 use Rattle.std.specs.Option.{option_map_or}
-use Rattle.std.specs.Result.{is_ok, IsOk}
+use Rattle.std.specs.Result.{is_ok, IsOk, result_ok}
 use Rattle.std.proofs.lemmas.Bool.{or_parts, or_from, and_parts, and_from, not-true, not-false, not_from_true, not_from_false, false≢true, true≢false}
 use Rattle.query_tree.specs.declared.query.Query.{Query}
 use Rattle.query_lexemes.specs.declared.fault.QueryFault.{QueryFault}
@@ -25,7 +25,7 @@ use Rattle.query_text.proofs.Steps.{IsUntold}
 use Rattle.query_text.proofs.Reading.{untold_from}
 use Rattle.query_grammar.specs.Forms.{AreOfForms}
 use Rattle.query_grammar.specs.Fitting.{Level, stands, AllStand, behind_all}
-use Rattle.query_grammar.specs.Texts.{up_to_finish, lexemes_of, whats, IsRight, AllRight, AreOfQuery, behind_items, query_letters, IsOfQuery, query_read}
+use Rattle.query_grammar.specs.Texts.{up_to_finish, lexemes_of, whats, IsRight, AllRight, AreOfQuery, query_letters, IsOfQuery}
 use Rattle.query_grammar.specs.Laws.{LettersRead, TextsRead}
 use Rattle.query_grammar.proofs.Standing.{text_stands}
 use Rattle.query_grammar.proofs.Forming.{stand_forms}
@@ -226,54 +226,48 @@ module _ (s : Setting) (most : ℕ) (df : Option ℕ) where
   local_there p (Ok q) h = refl
   local_there p (Err e) h = absurd (false≢true h)
 
-  pub parsed : (r : Result Parsed QueryFault) (q : Query) → query_read r ≡ Some q → parses r
-  parsed (Ok p) q h = refl
-  parsed (Err e) q h = absurd (cc h)
-
   module _ (end : ℕ) where
     -- the letters of the query, which read
-    abbrev Found : Option (List Letter) → Type 0
-    Found o = (ls : List Letter) × (o ≡ Some ls) × reads (query_of s most df end ls)
+    abbrev Found : Option (Local × List Letter) → Type 0
+    Found o = (p : Local × List Letter) × (o ≡ Some p) × reads (query_of s most df end p.1)
 
-    items_there : (r : Result (Local × List Letter) ℕ) → parses (behind_local s most df end r) → Found (behind_items r)
-    items_there (Ok p) h = (p.1, refl, local_there p.0 (query_of s most df end p.1) h)
+    items_there : (r : Result (Local × List Letter) ℕ) → parses (behind_local s most df end r) → Found (result_ok r)
+    items_there (Ok p) h = (p, refl, local_there p.0 (query_of s most df end p.1) h)
     items_there (Err at) h = absurd (false≢true h)
-
-    items_value : (r : Result (Local × List Letter) ℕ) (ls : List Letter) (q : Query) → behind_items r ≡ Some ls → query_of s most df end ls ≡ Ok q
-        → query_read (behind_local s most df end r) ≡ Some q
-    items_value (Ok p) ls q e h =
-        let f : ls ≡ p.1 = cc e in
-        let g : query_of s most df end p.1 ≡ Ok q = subst (λ (ms : List Letter). query_of s most df end ms ≡ Ok q) f h in
-        rw g refl
-    items_value (Err at) ls q e h = absurd (cc e)
 
     mark_there : (o : Option (List Letter)) (ls : List Letter)
         → parses (option_map_or (λ params. behind_local s most df end (local end params)) o (with_local no_local (query_of s most df end ls)))
-        → Found (option_map_or (λ params. behind_items (local end params)) o (Some ls))
-    mark_there None ls h = (ls, refl, local_there no_local (query_of s most df end ls) h)
+        → Found (option_map_or (λ params. result_ok (local end params)) o (Some (no_local, ls)))
+    mark_there None ls h = ((no_local, ls), refl, local_there no_local (query_of s most df end ls) h)
     mark_there (Some params) ls h = items_there (local end params) h
 
-    mark_value : (o : Option (List Letter)) (all ls : List Letter) (q : Query)
-        → option_map_or (λ params. behind_items (local end params)) o (Some all) ≡ Some ls → query_of s most df end ls ≡ Ok q
-        → query_read (option_map_or (λ params. behind_local s most df end (local end params)) o (with_local no_local (query_of s most df end all))) ≡ Some q
-    mark_value None all ls q e h =
-        let f : ls ≡ all = cc e in
-        let g : query_of s most df end all ≡ Ok q = subst (λ (ms : List Letter). query_of s most df end ms ≡ Ok q) f h in
-        rw g refl
-    mark_value (Some params) all ls q e h = items_value (local end params) ls q e h
+    -- what is read behind local parameters
+    abbrev read_by : Local × List Letter → Result Parsed QueryFault
+    read_by p = with_local p.0 (query_of s most df end p.1)
+
+    items_value : (r : Result (Local × List Letter) ℕ) (p : Local × List Letter) → result_ok r ≡ Some p → behind_local s most df end r ≡ read_by p
+    items_value (Ok x) p e = let f : x ≡ p = cc e in ap read_by f
+    items_value (Err at) p e = absurd (cc e)
+
+    mark_value : (o : Option (List Letter)) (ls : List Letter) (p : Local × List Letter)
+        → option_map_or (λ params. result_ok (local end params)) o (Some (no_local, ls)) ≡ Some p
+        → option_map_or (λ params. behind_local s most df end (local end params)) o (with_local no_local (query_of s most df end ls)) ≡ read_by p
+    mark_value None ls p e = let all : Local × List Letter = (no_local, ls) in let f : (no_local, ls) ≡ p = cc e in ap read_by f
+    mark_value (Some params) ls p e = items_value (local end params) p e
 
   pub text_there : (text : List ℕ) → parses (letters_reading s most df (length text) (letters_of text)) → IsOfQuery s most df text
   unfolding letters_reading
   text_there text h =
       let f : Found (length text) (query_letters (length text) (letters_of text)) = mark_there (length text) (behind_mark (letters_of text)) (letters_of text) h in
-      record { letters = f.0; behind = f.1; query = letters_there (length text) f.0 f.2 }
+      record { params = (f.0).0; letters = (f.0).1; behind = f.1; query = letters_there (length text) (f.0).1 f.2 }
 
   pub text_value : (text : List ℕ) (q : IsOfQuery s most df text)
-      → query_read (letters_reading s most df (length text) (letters_of text))
-      ≡ Some (clauses_read s most (top df) [] (whats (lexemes_of (length text) q.letters)))
+      → letters_reading s most df (length text) (letters_of text)
+      ≡ with_local q.params (Ok (clauses_read s most (top df) [] (whats (lexemes_of (length text) q.letters))))
   unfolding letters_reading
   text_value text q =
-      mark_value (length text) (behind_mark (letters_of text)) (letters_of text) q.letters _ q.behind (letters_value (length text) q.letters q.query)
+      mark_value (length text) (behind_mark (letters_of text)) (letters_of text) (q.params, q.letters) q.behind
+      ∙ ap (with_local q.params) (letters_value (length text) q.letters q.query)
 
   pub texts_read : TextsRead s most df
-  texts_read text = (text_there text, λ q. parsed _ _ (text_value text q))
+  texts_read text = (text_there text, λ q. ap is_ok (text_value text q))

@@ -1,11 +1,10 @@
 -- Which texts read, by the forms.
-use Rattle.std.specs.Prelude.{ℕ, ◌≡◌, ◌+◌, List, [], ◌∷◌, length, map, true, if◌then◌else◌, Option, Some, None, option_map, Result, Ok, Err}
+use Rattle.std.specs.Prelude.{ℕ, ◌≡◌, ◌+◌, List, [], ◌∷◌, length, map, true, if◌then◌else◌, Option, Some, None}
 use Rattle.std.specs.List.{AllByRecursion}
 use Rattle.std.specs.Option.{option_map_or}
 use Rattle.std.specs.Result.{result_ok}
 use Rattle.field_schema.specs.declared.field.Field.{Field}
 use Rattle.query_tree.specs.declared.query.Query.{Query}
-use Rattle.query_lexemes.specs.declared.fault.QueryFault.{QueryFault}
 use Rattle.query_lexemes.specs.declared.letter.Letter.{Letter}
 use Rattle.query_lexemes.specs.declared.local.Local.{Local}
 use Rattle.query_lexemes.specs.declared.lexeme.Lexeme.{Lexeme}
@@ -17,7 +16,7 @@ use Rattle.query_text.specs.declared.reader.Parsed.{Parsed}
 use Rattle.query_text.specs.Levels.{top}
 use Rattle.query_text.specs.Readings.{kind_for, words_of}
 use Rattle.query_text.specs.Faults.{unknown_field, bad_number, bad_bound, from_of, to_of, unsupported, too_deep, too_many}
-use Rattle.query_text.specs.Reads.{Setting, after, is_finish}
+use Rattle.query_text.specs.Reads.{Setting, no_local, after, is_finish}
 use Rattle.query_grammar.specs.Forms.{TextForm, leaves as leaves_of, AreOfForms}
 use Rattle.query_grammar.specs.Fitting.{Level}
 use Rattle.query_grammar.specs.Meaning.{meaning}
@@ -58,35 +57,32 @@ pub record AreOfQuery (s : Setting) (most : ℕ) (df : Option ℕ) (end : ℕ) (
   pub forms : AreOfForms (whats (lexemes_of end ls))
   pub right : AllRight s most (top df) [] (lexemes_of end ls)
 
--- the lexemes of the letters are those of a right tree, which means the query, and nothing is wrong with them by themselves
-pub record LettersMean (s : Setting) (most : ℕ) (df : Option ℕ) (end : ℕ) (ls : List Letter) (q : Query) : Type 0 where
+-- the lexemes are those of a right tree, which means the query, and nothing is wrong with them by themselves
+pub record LettersMean (s : Setting) (most : ℕ) (df : Option ℕ) (end : ℕ) (ls : List Letter) (q : Query)
+    : Type 0 where
   pub tree : TextForm
   pub leaves : leaves_of tree ≡ whats (lexemes_of end ls)
   pub itself : AllByRecursion (λ x. x.wrong ≡ None) (lexemes_of end ls)
   pub right : text_right s.fields most df tree ≡ true
   pub means : q ≡ meaning s df tree
 
--- the letters behind local parameters
-abbrev pub behind_items : Result (Local × List Letter) ℕ → Option (List Letter)
-behind_items (Ok p) = Some p.1
-behind_items (Err at) = None
-
--- the letters of the query: all, or those behind local parameters, where these have no fault
-abbrev pub query_letters : ℕ → List Letter → Option (List Letter)
-query_letters end ls = option_map_or (λ params. behind_items (local end params)) (behind_mark ls) (Some ls)
+-- local parameters and the letters of the query behind them, or none and all letters; nothing where they have a fault
+abbrev pub query_letters : ℕ → List Letter → Option (Local × List Letter)
+query_letters end ls =
+    option_map_or (λ params. result_ok (local end params)) (behind_mark ls) (Some (no_local, ls))
 
 -- a text whose query is of the forms, and right
 pub record IsOfQuery (s : Setting) (most : ℕ) (df : Option ℕ) (text : List ℕ) : Type 0 where
+  pub params : Local
   pub letters : List Letter
-  pub behind : query_letters (length text) (letters_of text) ≡ Some letters
+  pub behind : query_letters (length text) (letters_of text) ≡ Some (params, letters)
   pub query : AreOfQuery s most df (length text) letters
 
--- a text whose letters behind local parameters mean the query
-pub record TextMeans (s : Setting) (most : ℕ) (df : Option ℕ) (text : List ℕ) (q : Query) : Type 0 where
+-- what is read of a text: what its letters mean, and what its local parameters say
+pub record TextMeans (s : Setting) (most : ℕ) (df : Option ℕ) (text : List ℕ) (read : Parsed) : Type 0 where
+  pub params : Local
   pub letters : List Letter
-  pub behind : query_letters (length text) (letters_of text) ≡ Some letters
-  pub query : LettersMean s most df (length text) letters q
-
--- the query that a text reads to, where it does
-abbrev pub query_read : Result Parsed QueryFault → Option Query
-query_read r = option_map (λ p. p.query) (result_ok r)
+  pub behind : query_letters (length text) (letters_of text) ≡ Some (params, letters)
+  pub query : LettersMean s most df (length text) letters read.query
+  pub cached : read.cached ≡ params.cached
+  pub cost : read.cost ≡ params.cost
