@@ -1,6 +1,7 @@
 -- A text reads exactly where its lexemes are the leaves of a tree and tell no other fault.
-use Rattle.std.proofs.Common.{◌≡◌, ◌+◌, ◌++◌, ◌∷◌, [], ℕ, List, Bool, true, false, not, Option, None, Some, Result, Ok, Err, length, refl, ap, sym, subst, ◌∙◌, ◌⊎◌, inl, inr, arith}
+use Rattle.std.proofs.Common.{◌≡◌, ◌+◌, ◌++◌, ◌∷◌, [], ℕ, List, Bool, true, false, not, Option, None, Some, Result, Ok, Err, length, refl, ap, sym, subst, ◌∙◌, ◌⊎◌, inl, inr, arith, ⊎_elim}
 use Rattle.std.specs.Prelude.{◌==◌, is_none, is_some, if◌then◌else◌, option_map}
+use Rattle.std.specs.List.{list_any}
 use Rattle.std.specs.Option.{option_map_or}
 use Rattle.std.specs.Result.{is_ok, IsOk, result_ok}
 use Rattle.std.proofs.lemmas.Bool.{or_parts, or_from, and_parts, and_from, not-true, not-false, not_from_true, not_from_false, false≢true, true≢false}
@@ -12,6 +13,7 @@ use Rattle.query_lexemes.specs.declared.local.Local.{Local}
 use Rattle.query_lexemes.specs.declared.lexeme.Lexeme.{Lexeme}
 use Rattle.query_lexemes.specs.declared.lexeme.What.{What}
 use Rattle.query_lexemes.specs.declared.lexeme.What.TheVariants as what
+use Rattle.query_lexemes.specs.declared.lexeme.Operator.{Operator}
 use Rattle.query_lexemes.specs.Letters.{letters as letters_of}
 use Rattle.query_lexemes.specs.Lexemes.{lexemes}
 use Rattle.query_lexemes.specs.Local.{local, behind_mark}
@@ -24,9 +26,9 @@ use Rattle.query_text.specs.Reads.{Setting, after, is_finish, read_from, query_o
 use Rattle.query_text.proofs.Steps.{IsUntold}
 use Rattle.query_text.proofs.Reading.{untold_from}
 use Rattle.query_grammar.specs.Forms.{AreOfForms}
-use Rattle.query_grammar.specs.Fitting.{Level, stands, AllStand, behind_all}
-use Rattle.query_grammar.specs.Texts.{up_to_finish, lexemes_of, whats, IsRight, AllRight, AreOfQuery, query_letters, IsOfQuery}
-use Rattle.query_grammar.specs.Laws.{LettersRead, TextsRead}
+use Rattle.query_grammar.specs.Fitting.{Level, stands, AllStand, behind_all, AllButOperatorStand}
+use Rattle.query_grammar.specs.Texts.{up_to_finish, lexemes_of, whats, IsRight, AllRight, AreOfQuery, query_letters, IsOfQuery, TellsFirst}
+use Rattle.query_grammar.specs.Laws.{LexemesEnd, LettersRead, LettersRefused, TextsRead}
 use Rattle.query_grammar.proofs.Standing.{text_stands}
 use Rattle.query_grammar.proofs.Forming.{stand_forms}
 use Rattle.query_grammar.proofs.Lexing.{Sound, Ended, lexemes_end}
@@ -44,9 +46,13 @@ fits_if false p h = absurd (true≢false (sym (ap is_none h)))
 no_fault : (b : Bool) (f : QueryFault) → b ≡ false → fault_if b f ≡ None
 no_fault b f h = rw h refl
 
--- a lexeme that isn't wrong can stand, or the next one is wrong
+-- an operator without a place behind it, and a lexeme that is wrong
+abbrev IdleOperator : What → List Lexeme → Type 0
+IdleOperator w xs = (o : Operator) × (w ≡ what.Operator o None) × (is_finish w ≡ false) × NextWrong xs
+
+-- a lexeme that isn't wrong can stand, or is such an operator
 stands_or : (w : What) (o : Option QueryFault) (xs : List Lexeme) (l : Level) (os : List Level) (at : ℕ) → o ≡ None → Sound w o → Follows w xs
-    → syntax l os at w ≡ None → (stands l os w ≡ true) ⊎ ((is_finish w ≡ false) × NextWrong xs)
+    → syntax l os at w ≡ None → (stands l os w ≡ true) ⊎ IdleOperator w xs
 unfolding syntax
 stands_or (what.Word text) o xs l os at n k f h = inl refl
 stands_or (what.Prefix text) o xs l os at n k f h = inl refl
@@ -55,7 +61,7 @@ stands_or what.Star o xs l os at n k f h = inl refl
 stands_or (what.Range low from to high) o xs l os at n k f h = inl refl
 stands_or (what.Name text colon) o xs l os at n k f h = inl (not-false _ (untold_if _ _ h))
 stands_or (what.Any colon other) o xs l os at n k f h = inl (not-false _ (untold_if _ _ h))
-stands_or (what.Operator p None) o xs l os at n k f h = inr (refl, f)
+stands_or (what.Operator p None) o xs l os at n k f h = inr (p, refl, refl, f)
 stands_or (what.Operator p (Some b)) o xs l os at n k f h = inl (fits_if _ _ h)
 stands_or (what.Sign prohibits) o xs l os at n k f h = inl (not-false _ (untold_if _ _ h))
 stands_or what.Opening o xs l os at n k f h = inl refl
@@ -135,15 +141,15 @@ module _ (s : Setting) (most : ℕ) where
       → AreRight (after s l os x.what).0 (after s l os x.what).1 (up_to_finish xs)
 
   right_or : (b : Bool) (l : Level) (os : List Level) (x : Lexeme) (xs : List Lexeme) → is_finish x.what ≡ b → (is_finish x.what ≡ false → Ended xs)
-      → (stands l os x.what ≡ true) ⊎ ((is_finish x.what ≡ false) × NextWrong xs) → IsRight s.fields most l os x → (Ended xs → Behind l os x xs)
+      → (stands l os x.what ≡ true) ⊎ IdleOperator x.what xs → IsRight s.fields most l os x → (Ended xs → Behind l os x xs)
       → reads (if b then Ok (joined s.op l.clauses) else read_from s most (after s l os x.what).0 (after s l os x.what).1 xs)
       → AreRight l os (x ∷ (if b then [] else up_to_finish xs))
   right_or true l os x xs b e (inl h) r k o = ((h, λ f. refl, tt), (r, tt))
-  right_or true l os x xs b e (inr n) r k o = absurd (true≢false (sym b ∙ n.0))
+  right_or true l os x xs b e (inr n) r k o = absurd (true≢false (sym b ∙ n.2))
   right_or false l os x xs b e (inl h) r k o =
       let m : AreRight (after s l os x.what).0 (after s l os x.what).1 (up_to_finish xs) = k (e b) o in
       ((h, λ f. absurd (true≢false (sym f ∙ b)), m.0), (r, m.1))
-  right_or false l os x xs b e (inr n) r k o = absurd (next_stops (after s l os x.what).0 (after s l os x.what).1 xs n.1 (e b) o)
+  right_or false l os x xs b e (inr n) r k o = absurd (next_stops (after s l os x.what).0 (after s l os x.what).1 xs n.3 (e b) o)
 
   reads_right : (xs : List Lexeme) (l : Level) (os : List Level) → Ended xs → reads (read_from s most l os xs) → AreRight l os (up_to_finish xs)
   unfolding read_from up_to_finish
@@ -153,6 +159,81 @@ module _ (s : Setting) (most : ℕ) where
       let u = untold_from s.fields most l os x t.0 in
       right_or (is_finish x.what) l os x xs refl e.2 (stands_or x.what x.wrong xs l os x.at u.0 e.0 e.1 u.1.syntax) (right_from l os x u.0 u.1)
       (λ f g. reads_right xs (after s l os x.what).0 (after s l os x.what).1 f g) t.1
+
+  -- ---- the first fault
+
+  tells_here : (l : Level) (os : List Level) (x : Lexeme) (xs : List Lexeme) (f : QueryFault) → least (told s.fields most l os x) ≡ Some f
+      → TellsFirst s most l os (x ∷ xs) f
+  tells_here l os x xs f h = record { front = []; first = x; rest = xs; are = refl; goes_on = refl; stand = inl tt; tells = h }
+
+  stand_more : (l : Level) (os : List Level) (w : What) (ws : List What) → stands l os w ≡ true → is_finish w ≡ false
+      → AllButOperatorStand s (after s l os w).0 (after s l os w).1 ws → AllButOperatorStand s l os (w ∷ ws)
+  stand_more l os w ws h n (inl k) = inl (h, λ e. absurd (false≢true (sym n ∙ e)), k)
+  stand_more l os w ws h n (inr k) =
+      inr (w ∷ k.0, k.1, ap (λ (vs : List What). w ∷ vs) k.2, (h, λ e. absurd (false≢true (sym n ∙ e)), k.3))
+
+  tells_behind : (l : Level) (os : List Level) (x : Lexeme) (xs : List Lexeme) (f : QueryFault) → stands l os x.what ≡ true → is_finish x.what ≡ false
+      → TellsFirst s most (after s l os x.what).0 (after s l os x.what).1 xs f → TellsFirst s most l os (x ∷ xs) f
+  tells_behind l os x xs f h n k = record {
+    front = x ∷ k.front;
+    first = k.first;
+    rest = k.rest;
+    are = ap (λ (ys : List Lexeme). x ∷ ys) k.are;
+    goes_on = or_from _ _ n k.goes_on;
+    stand = stand_more l os x.what (whats k.front) h n k.stand;
+    tells = k.tells;
+  }
+
+  fails : (o : Option QueryFault) (r : Result Query QueryFault) (f : QueryFault) → option_map_or Err o r ≡ Err f → (o ≡ Some f) ⊎ ((o ≡ None) × (r ≡ Err f))
+  fails None r f h = inr (refl, h)
+  fails (Some g) r f h = inl (cc h)
+
+  -- the first of them tells the fault
+  abbrev NextTells : Level → List Level → List Lexeme → QueryFault → Type 0
+  NextTells l os xs f = (x : Lexeme) × (rest : List Lexeme) × (xs ≡ x ∷ rest) × (least (told s.fields most l os x) ≡ Some f)
+
+  next_tells : (l : Level) (os : List Level) (xs : List Lexeme) (f : QueryFault) → NextWrong xs → Ended xs → read_from s most l os xs ≡ Err f
+      → NextTells l os (up_to_finish xs) f
+  unfolding read_from up_to_finish
+  next_tells l os [] f n e h = absurd e
+  next_tells l os (x ∷ xs) f n e h =
+      ⊎_elim (λ t. (x, (if is_finish x.what then [] else up_to_finish xs), refl, t))
+      (λ t. let u = untold_from s.fields most l os x t.0 in absurd (true≢false (sym n ∙ ap is_some u.0)))
+      (fails (least (told s.fields most l os x)) _ f h)
+
+  idle_tells : (l : Level) (os : List Level) (x : Lexeme) (xs ys : List Lexeme) (f : QueryFault) → IdleOperator x.what ys
+      → NextTells (after s l os x.what).0 (after s l os x.what).1 xs f → TellsFirst s most l os (x ∷ xs) f
+  idle_tells l os x xs ys f i k = record {
+    front = x ∷ [];
+    first = k.0;
+    rest = k.1;
+    are = ap (λ (zs : List Lexeme). x ∷ zs) k.2;
+    goes_on = or_from _ _ i.2 refl;
+    stand = inr ([], i.0, ap (λ (w : What). w ∷ []) i.1, tt);
+    tells = k.3;
+  }
+
+  tells_or : (b : Bool) (l : Level) (os : List Level) (x : Lexeme) (xs : List Lexeme) (f : QueryFault) → is_finish x.what ≡ b → (is_finish x.what ≡ false → Ended xs)
+      → (stands l os x.what ≡ true) ⊎ IdleOperator x.what xs
+      → (Ended xs → read_from s most (after s l os x.what).0 (after s l os x.what).1 xs ≡ Err f
+      → TellsFirst s most (after s l os x.what).0 (after s l os x.what).1 (up_to_finish xs) f)
+      → (if b then Ok (joined s.op l.clauses) else read_from s most (after s l os x.what).0 (after s l os x.what).1 xs) ≡ Err f
+      → TellsFirst s most l os (x ∷ (if b then [] else up_to_finish xs)) f
+  tells_or true l os x xs f b e c k h = absurd (cc h)
+  tells_or false l os x xs f b e (inl c) k h = tells_behind l os x (up_to_finish xs) f c b (k (e b) h)
+  tells_or false l os x xs f b e (inr i) k h =
+      idle_tells l os x (up_to_finish xs) xs f i (next_tells (after s l os x.what).0 (after s l os x.what).1 xs f i.3 (e b) h)
+
+  tells_first : (xs : List Lexeme) (l : Level) (os : List Level) (f : QueryFault) → Ended xs → read_from s most l os xs ≡ Err f
+      → TellsFirst s most l os (up_to_finish xs) f
+  unfolding read_from up_to_finish
+  tells_first [] l os f e h = absurd e
+  tells_first (x ∷ xs) l os f e h =
+      ⊎_elim (λ t. tells_here l os x _ f t)
+      (λ t. let u = untold_from s.fields most l os x t.0 in
+      tells_or (is_finish x.what) l os x xs f refl e.2 (stands_or x.what x.wrong xs l os x.at u.0 e.0 e.1 u.1.syntax)
+      (λ g k. tells_first xs (after s l os x.what).0 (after s l os x.what).1 f g k) t.1)
+      (fails (least (told s.fields most l os x)) _ f h)
 
   -- what is read behind them all
   abbrev pub clauses_read : Level → List Level → List What → Query
@@ -183,19 +264,23 @@ module _ (s : Setting) (most : ℕ) where
 -- ---- up to the end
 
 abbrev HasEnd : List What → Type 0
-HasEnd ws = (vs : List What) × (ws ≡ vs ++ what.Finish ∷ [])
+HasEnd ws = (vs : List What) × (list_any is_finish vs ≡ false) × (ws ≡ vs ++ what.Finish ∷ [])
 
 end_or : (b : Bool) (x : Lexeme) (xs : List Lexeme) → is_finish x.what ≡ b → (b ≡ false → HasEnd (whats xs)) → HasEnd (x.what ∷ whats (if b then [] else xs))
-end_or true x xs b k = ([], ap (λ (w : What). w ∷ []) (finish_is x.what b))
-end_or false x xs b k = (x.what ∷ (k refl).0, ap (λ (ws : List What). x.what ∷ ws) (k refl).1)
+end_or true x xs b k = ([], refl, ap (λ (w : What). w ∷ []) (finish_is x.what b))
+end_or false x xs b k = (x.what ∷ (k refl).0, or_from _ _ b (k refl).1, ap (λ (ws : List What). x.what ∷ ws) (k refl).2)
 
 has_end : (xs : List Lexeme) → Ended xs → HasEnd (whats (up_to_finish xs))
 unfolding up_to_finish
 has_end [] e = absurd e
 has_end (x ∷ xs) e = end_or (is_finish x.what) x (up_to_finish xs) refl (λ b. has_end xs (e.2 b))
 
+pub lexemes_end_once : LexemesEnd
+unfolding lexemes_of
+lexemes_end_once end ls = has_end (lexemes (length ls + 1) end ls) (lexemes_end (length ls + 1) end ls (omega arith))
+
 forms_of : (s : Setting) (df : Option ℕ) (ws : List What) → HasEnd ws → AllStand s (top df) [] ws → AreOfForms ws
-forms_of s df ws e h = subst AreOfForms (sym e.1) (stand_forms s df e.0 (subst (AllStand s (top df) []) e.1 h))
+forms_of s df ws e h = subst AreOfForms (sym e.2) (stand_forms s df e.0 (subst (AllStand s (top df) []) e.2 h))
 
 -- ---- letters and texts
 
@@ -215,6 +300,10 @@ module _ (s : Setting) (most : ℕ) (df : Option ℕ) where
   letters_value end ls q =
       right_reads s most (lexemes (length ls + 1) end ls) (top df) [] (ended end ls)
       (subst (AllStand s (top df) []) q.forms.1 (text_stands s q.forms.0 df), q.right)
+
+  pub letters_refused : LettersRefused s most df
+  unfolding query_of lexemes_of
+  letters_refused end ls f h = tells_first s most (lexemes (length ls + 1) end ls) (top df) [] f (ended end ls) h
 
   pub letters_read : LettersRead s most df
   letters_read end ls = (letters_there end ls, λ q. ap (λ (r : Result Query QueryFault). is_ok r) (letters_value end ls q))

@@ -1,7 +1,9 @@
 -- Where a lexeme can stand, behind those before it.
-use Rattle.std.specs.Prelude.{◌≡◌, List, [], ◌∷◌, length, Bool, true, false, not, ◌&&◌, ◌==◌, None}
+use Rattle.std.specs.Prelude.{◌≡◌, ◌⊎◌, List, [], ◌∷◌, ◌++◌, length, Bool, true, false, not, ◌&&◌, ◌==◌, None}
+use Rattle.std.specs.List.{list_any}
 use Rattle.query_lexemes.specs.declared.lexeme.What.{What}
 use Rattle.query_lexemes.specs.declared.lexeme.What.TheVariants as what
+use Rattle.query_lexemes.specs.declared.lexeme.Operator.{Operator}
 use Rattle.query_text.specs.Levels.{top, is_here, begins, is_between, joins}
 use Rattle.query_text.specs.Faults.{operator_fits}
 use Rattle.query_text.specs.Reads.{Setting, after, is_finish}
@@ -41,3 +43,19 @@ AllStand s l os (w ∷ ws) =
 abbrev pub behind_all : Setting → Level → List Level → List What → Level × List Level
 behind_all s l os [] = (l, os)
 behind_all s l os (w ∷ ws) = behind_all s (after s l os w).0 (after s l os w).1 ws
+
+-- lexemes of which one is the first that can't stand
+pub record HasFirstFault (s : Setting) (l : Level) (os : List Level) (ws : List What) : Type 0 where
+  pub front : List What
+  pub first : What
+  pub rest : List What
+  pub are : ws ≡ front ++ first ∷ rest
+  pub stand : AllStand s l os front
+  pub goes_on : list_any is_finish front ≡ false
+  pub fault : stands (behind_all s l os front).0 (behind_all s l os front).1 first ≡ false
+
+-- all of them can stand, but perhaps for an operator at their end, behind which stands a byte with a fault of its own
+abbrev pub AllButOperatorStand : Setting → Level → List Level → List What → Type 0
+AllButOperatorStand s l os ws =
+    AllStand s l os ws
+    ⊎ ((front : List What) × (o : Operator) × (ws ≡ front ++ what.Operator o None ∷ []) × AllStand s l os front)

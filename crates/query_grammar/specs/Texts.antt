@@ -1,10 +1,11 @@
 -- Which texts read, by the forms.
-use Rattle.std.specs.Prelude.{ℕ, ◌≡◌, ◌+◌, List, [], ◌∷◌, length, map, true, if◌then◌else◌, Option, Some, None}
-use Rattle.std.specs.List.{AllByRecursion}
+use Rattle.std.specs.Prelude.{ℕ, ◌≡◌, ◌+◌, List, [], ◌∷◌, ◌++◌, length, map, true, false, if◌then◌else◌, Option, Some, None}
+use Rattle.std.specs.List.{AllByRecursion, list_any}
 use Rattle.std.specs.Option.{option_map_or}
 use Rattle.std.specs.Result.{result_ok}
 use Rattle.field_schema.specs.declared.field.Field.{Field}
 use Rattle.query_tree.specs.declared.query.Query.{Query}
+use Rattle.query_lexemes.specs.declared.fault.QueryFault.{QueryFault}
 use Rattle.query_lexemes.specs.declared.letter.Letter.{Letter}
 use Rattle.query_lexemes.specs.declared.local.Local.{Local}
 use Rattle.query_lexemes.specs.declared.lexeme.Lexeme.{Lexeme}
@@ -15,10 +16,10 @@ use Rattle.query_lexemes.specs.Local.{local, behind_mark}
 use Rattle.query_text.specs.declared.reader.Parsed.{Parsed}
 use Rattle.query_text.specs.Levels.{top}
 use Rattle.query_text.specs.Readings.{kind_for, words_of}
-use Rattle.query_text.specs.Faults.{unknown_field, bad_number, bad_bound, from_of, to_of, unsupported, too_deep, too_many}
+use Rattle.query_text.specs.Faults.{least, told, unknown_field, bad_number, bad_bound, from_of, to_of, unsupported, too_deep, too_many}
 use Rattle.query_text.specs.Reads.{Setting, no_local, after, is_finish}
 use Rattle.query_grammar.specs.Forms.{TextForm, leaves as leaves_of, AreOfForms}
-use Rattle.query_grammar.specs.Fitting.{Level}
+use Rattle.query_grammar.specs.Fitting.{Level, behind_all, AllButOperatorStand}
 use Rattle.query_grammar.specs.Meaning.{meaning}
 use Rattle.query_grammar.specs.Right.{text_right}
 
@@ -86,3 +87,15 @@ pub record TextMeans (s : Setting) (most : ℕ) (df : Option ℕ) (text : List �
   pub query : LettersMean s most df (length text) letters read.query
   pub cached : read.cached ≡ params.cached
   pub cost : read.cost ≡ params.cost
+
+-- a lexeme tells the fault that counts, and those before it can stand
+pub record TellsFirst (s : Setting) (most : ℕ) (l : Level) (os : List Level) (xs : List Lexeme) (f : QueryFault)
+    : Type 0 where
+  pub front : List Lexeme
+  pub first : Lexeme
+  pub rest : List Lexeme
+  pub are : xs ≡ front ++ first ∷ rest
+  pub goes_on : list_any is_finish (whats front) ≡ false
+  pub stand : AllButOperatorStand s l os (whats front)
+  pub tells : least (told s.fields most (behind_all s l os (whats front)).0 (behind_all s l os (whats front)).1 first)
+      ≡ Some f
