@@ -1,5 +1,5 @@
--- What lexemes are: each but the last takes a letter, a flaw is wrong, and behind an operator without a place of its own
--- stands a lexeme that is wrong.
+-- What lexemes are: each but the last takes a letter, a flaw is wrong, behind an operator without a place of its own
+-- stands a lexeme that is wrong, and `*:` tells of the one behind it.
 use Rattle.std.proofs.Common.{◌≡◌, ◌+◌, ◌≤◌, ◌<◌, ◌∷◌, [], ℕ, zero, suc, List, Bool, true, false, not, cond, Option, None, Some, Result, Ok, Err, length, refl, sym, subst, ◌∙◌, arith, ⊎_elim, length-drop}
 use Rattle.std.specs.Prelude.{◌||◌, ◌==◌, is_some, if◌then◌else◌}
 use Rattle.std.specs.Option.{option_map_or}
@@ -14,9 +14,10 @@ use Rattle.query_lexemes.specs.declared.lexeme.What.TheVariants as what
 use Rattle.query_lexemes.specs.declared.lexeme.Operator.{Operator}
 use Rattle.query_lexemes.specs.declared.lexeme.Bound.{Bound}
 use Rattle.query_lexemes.specs.Letters.{stands, is_blank, goes_on, begins_word, is_unsupported, is_lone, belongs, run, past, skip, at_front, text_of}
-use Rattle.query_lexemes.specs.Lexemes.{right, wrong, place, tail, operator_of, is_filter, behind, prefix, plain_word, word, star, quoted, quoted_bound, run_bound, bound, between, range_close, range_to, range_between, range_from, range, special, lexeme, lexemes}
+use Rattle.query_lexemes.specs.Lexemes.{right, wrong, begins_other, place, tail, operator_of, is_filter, behind, prefix, plain_word, word, star, quoted, quoted_bound, run_bound, bound, between, range_close, range_to, range_between, range_from, range, special, lexeme, lexemes}
 use Rattle.query_lexemes.proofs.LexemeTexts.{Holds, NextWrong, Follows}
 use Rattle.query_text.specs.Reads.{is_finish}
+use Rattle.query_grammar.proofs.Stars.{Tells, begins_tells}
 
 abbrev DomainOf : {A B : Type 0} → (A → B) → Type 0
 DomainOf {A} f = A
@@ -48,9 +49,10 @@ abbrev Lacks : Option ℕ → List Letter → Type 0
 Lacks None rest = at_front is_unsupported rest ≡ true
 Lacks (Some at) rest = Unit {0}
 
--- what stands behind an operator without a place behind it
+-- what stands behind an operator without a place behind it, and behind `*:`
 abbrev Ahead : What → List Letter → Type 0
 Ahead (what.Operator o behind) rest = Lacks behind rest
+Ahead (what.Any colon other) rest = other ≡ begins_other (skip rest)
 Ahead w rest = Unit {0}
 
 -- what goes wrong is wrong
@@ -145,7 +147,7 @@ module _ (end n : ℕ) where
   star_fit : (at : ℕ) (ls : List Letter) → length ls ≤ n → Holds (Fit n) (star end at ls)
   unfolding star
   star_fit at ls h =
-      either (Fit n) (at_front (stands 58) (skip ls)) _ _ (λ e. record { it = (tail_short n (skip ls) (skip_short n ls h), tt, tt) }) (λ e. record { it = (h, tt, tt) })
+      either (Fit n) (at_front (stands 58) (skip ls)) _ _ (λ e. record { it = (tail_short n (skip ls) (skip_short n ls h), refl, tt) }) (λ e. record { it = (h, tt, tt) })
 
   -- ---- words
 
@@ -228,10 +230,20 @@ next_wrong end (l ∷ ls) h = flaw_wrong end l ls h
 
 -- ---- several lexemes
 
+-- the first of them, where there is one
+abbrev pub FirstTells : Bool → List Lexeme → Type 0
+FirstTells b [] = Unit {0}
+FirstTells b (x ∷ xs) = Tells b x.what
+
+-- `*:` tells of the lexeme behind it
+abbrev pub AnyTells : What → List Lexeme → Type 0
+AnyTells (what.Any colon other) xs = FirstTells other xs
+AnyTells w xs = Unit {0}
+
 -- they come to the end of the text, and each is as it is
 abbrev pub Ended : List Lexeme → Type 0
 Ended [] = ⊥
-Ended (x ∷ xs) = Sound x.what x.wrong × Follows x.what xs × (is_finish x.what ≡ false → Ended xs)
+Ended (x ∷ xs) = Sound x.what x.wrong × Follows x.what xs × AnyTells x.what xs × (is_finish x.what ≡ false → Ended xs)
 
 front_wrong : (n end : ℕ) (rest : List Letter) → at_front is_unsupported rest ≡ true → NextWrong (lexemes n end rest)
 unfolding lexemes
@@ -243,13 +255,23 @@ follows n end (what.Operator o None) rest h = front_wrong n end rest h
 follows n end (what.Operator o (Some p)) rest h = tt
 follows n end w rest h = tt
 
+first_tells : (n end : ℕ) (b : Bool) (rest : List Letter) → b ≡ begins_other (skip rest) → FirstTells b (lexemes n end rest)
+unfolding lexemes
+first_tells zero end b rest h = tt
+first_tells (suc n) end b rest h = subst (λ (c : Bool). Tells c ((lexeme end (skip rest)).0).what) (sym h) (begins_tells end (skip rest))
+
+any_tells : (n end : ℕ) (w : What) (rest : List Letter) → Ahead w rest → AnyTells w (lexemes n end rest)
+any_tells n end (what.Any colon other) rest h = first_tells n end other rest h
+any_tells n end w rest h = tt
+
 module _ (n end : ℕ) (more : (rest : List Letter) → length rest < n → Ended (lexemes n end rest)) where
   end_at : (ls : List Letter) → length ls < suc n → Ended ((lexeme end ls).0 ∷ lexemes n end (lexeme end ls).1)
   unfolding lexeme
-  end_at [] k = (tt, tt, λ e. absurd (true≢false e))
+  end_at [] k = (tt, tt, tt, λ e. absurd (true≢false e))
   end_at (l ∷ ls) k =
       let f : Fit (length ls) (lexeme end (l ∷ ls)) = (lexeme_fit end l ls).it in
-      (f.2, follows n end ((lexeme end (l ∷ ls)).0).what (lexeme end (l ∷ ls)).1 f.1, λ e. more (lexeme end (l ∷ ls)).1 (omega (arith, f.0)))
+      (f.2, follows n end ((lexeme end (l ∷ ls)).0).what (lexeme end (l ∷ ls)).1 f.1,
+      any_tells n end ((lexeme end (l ∷ ls)).0).what (lexeme end (l ∷ ls)).1 f.1, λ e. more (lexeme end (l ∷ ls)).1 (omega (arith, f.0)))
 
 pub lexemes_end : (n end : ℕ) (ls : List Letter) → length ls < n → Ended (lexemes n end ls)
 unfolding lexemes

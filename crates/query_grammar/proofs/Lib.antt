@@ -1,6 +1,7 @@
 pub mod Standing
 pub mod Forming
 pub mod Finishing
+pub mod Stars
 pub mod Lexing
 pub mod Texts
 pub mod Meaning

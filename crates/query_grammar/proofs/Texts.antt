@@ -157,7 +157,7 @@ module _ (s : Setting) (most : ℕ) where
   reads_right (x ∷ xs) l os e h =
       let t : (least (told s.fields most l os x) ≡ None) × _ = turn (least (told s.fields most l os x)) _ h in
       let u = untold_from s.fields most l os x t.0 in
-      right_or (is_finish x.what) l os x xs refl e.2 (stands_or x.what x.wrong xs l os x.at u.0 e.0 e.1 u.1.syntax) (right_from l os x u.0 u.1)
+      right_or (is_finish x.what) l os x xs refl e.3 (stands_or x.what x.wrong xs l os x.at u.0 e.0 e.1 u.1.syntax) (right_from l os x u.0 u.1)
       (λ f g. reads_right xs (after s l os x.what).0 (after s l os x.what).1 f g) t.1
 
   -- ---- the first fault
@@ -231,7 +231,7 @@ module _ (s : Setting) (most : ℕ) where
   tells_first (x ∷ xs) l os f e h =
       ⊎_elim (λ t. tells_here l os x _ f t)
       (λ t. let u = untold_from s.fields most l os x t.0 in
-      tells_or (is_finish x.what) l os x xs f refl e.2 (stands_or x.what x.wrong xs l os x.at u.0 e.0 e.1 u.1.syntax)
+      tells_or (is_finish x.what) l os x xs f refl e.3 (stands_or x.what x.wrong xs l os x.at u.0 e.0 e.1 u.1.syntax)
       (λ g k. tells_first xs (after s l os x.what).0 (after s l os x.what).1 f g k) t.1)
       (fails (least (told s.fields most l os x)) _ f h)
 
@@ -259,7 +259,7 @@ module _ (s : Setting) (most : ℕ) where
   right_reads [] l os e r = absurd e
   right_reads (x ∷ xs) l os e r =
       rw (told_none l os x r.0.0 r.1.0)
-      (read_or (is_finish x.what) l os x xs refl e.2 r (λ f g. right_reads xs (after s l os x.what).0 (after s l os x.what).1 f g))
+      (read_or (is_finish x.what) l os x xs refl e.3 r (λ f g. right_reads xs (after s l os x.what).0 (after s l os x.what).1 f g))
 
 -- ---- up to the end
 
@@ -273,7 +273,7 @@ end_or false x xs b k = (x.what ∷ (k refl).0, or_from _ _ b (k refl).1, ap (λ
 has_end : (xs : List Lexeme) → Ended xs → HasEnd (whats (up_to_finish xs))
 unfolding up_to_finish
 has_end [] e = absurd e
-has_end (x ∷ xs) e = end_or (is_finish x.what) x (up_to_finish xs) refl (λ b. has_end xs (e.2 b))
+has_end (x ∷ xs) e = end_or (is_finish x.what) x (up_to_finish xs) refl (λ b. has_end xs (e.3 b))
 
 pub lexemes_end_once : LexemesEnd
 unfolding lexemes_of
