@@ -269,9 +269,12 @@ module _ (n end : ℕ) (more : (rest : List Letter) → length rest < n → Ende
   unfolding lexeme
   end_at [] k = (tt, tt, tt, λ e. absurd (true≢false e))
   end_at (l ∷ ls) k =
-      let f : Fit (length ls) (lexeme end (l ∷ ls)) = (lexeme_fit end l ls).it in
-      (f.2, follows n end ((lexeme end (l ∷ ls)).0).what (lexeme end (l ∷ ls)).1 f.1,
-      any_tells n end ((lexeme end (l ∷ ls)).0).what (lexeme end (l ∷ ls)).1 f.1, λ e. more (lexeme end (l ∷ ls)).1 (omega (arith, f.0)))
+      let f : Fit (length ls) (lexeme end (l ∷ ls)) = (lexeme_fit end l ls).it in (
+        f.2,
+        follows n end ((lexeme end (l ∷ ls)).0).what (lexeme end (l ∷ ls)).1 f.1,
+        any_tells n end ((lexeme end (l ∷ ls)).0).what (lexeme end (l ∷ ls)).1 f.1,
+        λ e. more (lexeme end (l ∷ ls)).1 (omega (arith, f.0)),
+      )
 
 pub lexemes_end : (n end : ℕ) (ls : List Letter) → length ls < n → Ended (lexemes n end ls)
 unfolding lexemes

@@ -7,4 +7,5 @@ pub mod Texts
 pub mod Meaning
 pub mod Parts
 pub mod Trees
+pub mod Following
 pub mod Right

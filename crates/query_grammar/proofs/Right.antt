@@ -1,5 +1,5 @@
 -- The lexemes of a tree tell no other fault exactly where the tree is right.
-use Rattle.std.proofs.Common.{◌≡◌, ◌<◌, ◌≤◌, ◌++◌, ◌∷◌, [], ℕ, suc, List, Bool, true, false, not, Option, None, Some, Result, Ok, length, refl, ap, sym, ◌∙◌, ⊎_elim, arith, length-append}
+use Rattle.std.proofs.Common.{◌≡◌, ◌<◌, ◌≤◌, ◌++◌, ◌∷◌, [], ℕ, suc, List, Bool, true, false, not, Option, None, Some, Result, Ok, length, refl, ap, sym, ◌∙◌, ⊎_elim, arith, length-append, subst}
 use Rattle.std.specs.Prelude.{◌&&◌, ◌||◌, nat_lt, nat_le, is_none, is_some, option_map}
 use Rattle.std.specs.List.{AllByRecursion}
 use Rattle.std.specs.Result.{IsOk}
@@ -27,6 +27,7 @@ use Rattle.query_grammar.specs.Texts.{lexemes_of, whats, IsRight, AllRight, AreO
 use Rattle.query_grammar.specs.Meaning.{Place, conjunction_op, Sign, modifier_sign, Clause, query_clauses, meaning}
 use Rattle.query_grammar.specs.Right.{field_right, fits, single_right, clause_count, clauses_right, clause_right, body_right, value_right, text_right}
 use Rattle.query_grammar.specs.Laws.{LettersReadTo, TextsReadTo}
+use Rattle.query_grammar.proofs.Following.{AllFollow, follow_front, follow_back, star_told, letters_follow}
 use Rattle.query_grammar.proofs.Meaning.{place_of, fresh, joined_to, signed, conjunction_is, modifier_is, query_is, text_is}
 use Rattle.query_grammar.proofs.Texts.{letters_there, letters_value, text_there, text_value}
 
@@ -245,10 +246,12 @@ module _ (s : Setting) (most : ℕ) where
       → all_fine (joined_to f n cs j) os (modifier (Some (negation behind))) ≡ not (nat_le most (length cs))
   not_fine behind f n cs j os = modifier_tests (is_long (om f)) (nat_le most_deep (length os)) (nat_le most (length cs))
 
-  field_fine : (g : FieldForm) (f : Option ℕ) (n : Bool) (cs : List Clause) (j : Option Op) (m : Option Sign) (os : List Level)
-      → all_fine (signed f n cs j m) os (field (Some g)) ≡ (room (signed f n cs j m) && field_right s.fields (Some g))
-  field_fine (name text colon) f n cs j m os = known_tests (is_some (indexed text s.fields)) (is_long (om f)) (nat_le most_deep (length os)) _
-  field_fine (any colon other) f n cs j m os = bare_tests other (is_long (om f)) (nat_le most_deep (length os)) _
+  field_fine : (g : FieldForm) (v : ValueForm) (f : Option ℕ) (n : Bool) (cs : List Clause) (j : Option Op) (m : Option Sign) (os : List Level)
+      → AllFollow (field (Some g) ++ value_leaves v)
+      → all_fine (signed f n cs j m) os (field (Some g)) ≡ (room (signed f n cs j m) && field_right s.fields (Some g) v)
+  field_fine (name text colon) v f n cs j m os h = known_tests (is_some (indexed text s.fields)) (is_long (om f)) (nat_le most_deep (length os)) _
+  field_fine (any colon other) v f n cs j m os h =
+      bare_tests other (is_long (om f)) (nat_le most_deep (length os)) _ ∙ ap (λ (b : Bool). room (signed f n cs j m) && b) (star_told v other h.0)
 
   count_is : (q : QueryForm) (p : Place) → length (query_clauses s p q) ≡ clause_count q
   unfolding query_clauses clause_count
@@ -258,60 +261,61 @@ module _ (s : Setting) (most : ℕ) where
   mutual
     unfolding query_leaves clauses_right query_clauses clause_count after
 
-    query_fine : (q : QueryForm) (f : Option ℕ) (n : Bool) (os : List Level)
+    query_fine : (q : QueryForm) (f : Option ℕ) (n : Bool) (os : List Level) → AllFollow (query_leaves q)
         → all_fine (fresh f n []) os (query_leaves q)
         ≡ (clauses_right s.fields most (length os) (record { field = f; named = n }) q && nat_le (clause_count q) most)
-    query_fine (first c) f n os =
-        clause_fine c f n [] None os
+    query_fine (first c) f n os h =
+        clause_fine c f n [] None os h
         ∙ (first_tests (nat_le most 0) _ ∙ ap (λ (b : Bool). clause_right s.fields most (length os) (record { field = f; named = n }) c && b) (sym (next_is 0 most)))
-    query_fine (next q j c) f n os =
+    query_fine (next q j c) f n os h =
+        let k : AllFollow (conjunction j ++ clause_leaves c) = follow_back (query_leaves q) (conjunction j ++ clause_leaves c) h in
         let p : Place = record { field = f; named = n } in
         let cs : List Clause = query_clauses s (record { field = f; named = n }) q in
         let there : Bool = clause_right s.fields most (length os) (record { field = f; named = n }) c in
-        onward (query_leaves q) (conjunction j ++ clause_leaves c) (fresh f n []) (fresh f n cs) os os _ _ (query_is s q f n [] os) (query_fine q f n os)
+        onward (query_leaves q) (conjunction j ++ clause_leaves c) (fresh f n []) (fresh f n cs) os os _ _ (query_is s q f n [] os) (query_fine q f n os (follow_front (query_leaves q) (conjunction j ++ clause_leaves c) h))
         (onward (conjunction j) (clause_leaves c) (fresh f n cs) (joined_to f n cs (conjunction_op j)) os os _ _ (conjunction_is s j f n cs os)
-        (conjunction_fine j f n cs os) (clause_fine c f n cs (conjunction_op j) os))
+        (conjunction_fine j f n cs os) (clause_fine c f n cs (conjunction_op j) os (follow_back (conjunction j) (clause_leaves c) k)))
         ∙ (ap (λ (k : ℕ). (clauses_right s.fields most (length os) p q && nat_le (clause_count q) most) && (true && (not (nat_le most k) && there))) (count_is q p)
         ∙ next_tests (clauses_right s.fields most (length os) p q) there (clause_count q) most)
 
-    clause_fine : (c : ClauseForm) (f : Option ℕ) (n : Bool) (cs : List Clause) (j : Option Op) (os : List Level)
+    clause_fine : (c : ClauseForm) (f : Option ℕ) (n : Bool) (cs : List Clause) (j : Option Op) (os : List Level) → AllFollow (clause_leaves c)
         → all_fine (joined_to f n cs j) os (clause_leaves c)
         ≡ (not (nat_le most (length cs)) && clause_right s.fields most (length os) (record { field = f; named = n }) c)
-    clause_fine (clause None b) f n cs j os = body_fine b f n cs j None os
-    clause_fine (clause (Some (sign prohibits)) b) f n cs j os =
+    clause_fine (clause None b) f n cs j os h = body_fine b f n cs j None os h
+    clause_fine (clause (Some (sign prohibits)) b) f n cs j os h =
         onward (modifier (Some (sign prohibits))) (body_leaves b) (joined_to f n cs j) (signed f n cs j (modifier_sign (Some (sign prohibits)))) os os _ _
-        (modifier_is s (Some (sign prohibits)) f n cs j os) (sign_fine prohibits f n cs j os) (body_fine b f n cs j (modifier_sign (Some (sign prohibits))) os)
-    clause_fine (clause (Some (negation behind)) b) f n cs j os =
+        (modifier_is s (Some (sign prohibits)) f n cs j os) (sign_fine prohibits f n cs j os) (body_fine b f n cs j (modifier_sign (Some (sign prohibits))) os h.1)
+    clause_fine (clause (Some (negation behind)) b) f n cs j os h =
         onward (modifier (Some (negation behind))) (body_leaves b) (joined_to f n cs j) (signed f n cs j (modifier_sign (Some (negation behind)))) os os _ _
-        (modifier_is s (Some (negation behind)) f n cs j os) (not_fine behind f n cs j os) (body_fine b f n cs j (modifier_sign (Some (negation behind))) os)
+        (modifier_is s (Some (negation behind)) f n cs j os) (not_fine behind f n cs j os) (body_fine b f n cs j (modifier_sign (Some (negation behind))) os h.1)
 
-    body_fine : (b : BodyForm) (f : Option ℕ) (n : Bool) (cs : List Clause) (j : Option Op) (m : Option Sign) (os : List Level)
+    body_fine : (b : BodyForm) (f : Option ℕ) (n : Bool) (cs : List Clause) (j : Option Op) (m : Option Sign) (os : List Level) → AllFollow (body_leaves b)
         → all_fine (signed f n cs j m) os (body_leaves b)
         ≡ (room (signed f n cs j m) && body_right s.fields most (length os) (record { field = f; named = n }) b)
-    body_fine (body None v) f n cs j m os = value_fine v (signed f n cs j m) os
-    body_fine (body (Some (name text colon)) v) f n cs j m os =
-        onward (field (Some (name text colon))) (value_leaves v) (signed f n cs j m) _ os os _ _ refl (field_fine (name text colon) f n cs j m os) (value_fine v _ os)
+    body_fine (body None v) f n cs j m os h = value_fine v (signed f n cs j m) os h
+    body_fine (body (Some (name text colon)) v) f n cs j m os h =
+        onward (field (Some (name text colon))) (value_leaves v) (signed f n cs j m) _ os os _ _ refl (field_fine (name text colon) v f n cs j m os h) (value_fine v _ os h.1)
         ∙ and_assoc (room (signed f n cs j m)) _ _
-    body_fine (body (Some (any colon other)) v) f n cs j m os =
-        onward (field (Some (any colon other))) (value_leaves v) (signed f n cs j m) _ os os _ _ refl (field_fine (any colon other) f n cs j m os) (value_fine v _ os)
+    body_fine (body (Some (any colon other)) v) f n cs j m os h =
+        onward (field (Some (any colon other))) (value_leaves v) (signed f n cs j m) _ os os _ _ refl (field_fine (any colon other) v f n cs j m os h) (value_fine v _ os h.1)
         ∙ and_assoc (room (signed f n cs j m)) _ _
 
-    value_fine : (v : ValueForm) (l : Level) (os : List Level)
+    value_fine : (v : ValueForm) (l : Level) (os : List Level) → AllFollow (value_leaves v)
         → all_fine l os (value_leaves v) ≡ (room l && value_right s.fields most (length os) (place_of l) v)
-    value_fine (single w) l os = single_fine w l os
-    value_fine (group q) l os =
+    value_fine (single w) l os h = single_fine w l os
+    value_fine (group q) l os h =
         open_tests (is_long (om (field_for l))) (nat_le most_deep (length os)) _ _
         (clauses_right s.fields most (suc (length os)) (place_of l) q && nat_le (clause_count q) most)
         (onward (query_leaves q) (what.Closing ∷ []) (inside l) (fresh (field_for l) (is_explicit l) (query_clauses s (place_of l) q)) (l ∷ os) (l ∷ os) _ _
-        (query_is s q (field_for l) (is_explicit l) [] (l ∷ os)) (query_fine q (field_for l) (is_explicit l) (l ∷ os))
+        (query_is s q (field_for l) (is_explicit l) [] (l ∷ os)) (query_fine q (field_for l) (is_explicit l) (l ∷ os) (follow_front (query_leaves q) (what.Closing ∷ []) h.1))
         (idle_tests (is_long (om (field_for l))) (nat_le most_deep (suc (length os)))))
         ∙ ap (λ (b : Bool). room l && (b && (clauses_right s.fields most (suc (length os)) (place_of l) q && nat_le (clause_count q) most))) (sym (lt_is (length os) most_deep))
 
-  text_fine : (t : TextForm) (df : Option ℕ) → all_fine (top df) [] (leaves t) ≡ text_right s.fields most df t
-  text_fine blank df = idle_tests (is_long (om df)) (nat_le most_deep 0)
-  text_fine (query q) df =
+  text_fine : (t : TextForm) (df : Option ℕ) → AllFollow (leaves t) → all_fine (top df) [] (leaves t) ≡ text_right s.fields most df t
+  text_fine blank df h = idle_tests (is_long (om df)) (nat_le most_deep 0)
+  text_fine (query q) df h =
       onward (query_leaves q) (what.Finish ∷ []) (top df) (fresh df false (query_clauses s (record { field = df; named = false }) q)) [] [] _ _
-      (query_is s q df false [] []) (query_fine q df false []) (idle_tests (is_long (om df)) (nat_le most_deep 0))
+      (query_is s q df false [] []) (query_fine q df false [] (follow_front (query_leaves q) (what.Finish ∷ []) h)) (idle_tests (is_long (om df)) (nat_le most_deep 0))
       ∙ and-true _
 
   -- ---- lexemes
@@ -340,6 +344,11 @@ module _ (s : Setting) (most : ℕ) (df : Option ℕ) where
   value_is : (end : ℕ) (ls : List Letter) (t : TextForm) → leaves t ≡ whats (lexemes_of end ls) → value_of end ls ≡ meaning s df t
   value_is end ls t h = ap (λ (ws : List What). joined s.op (behind_all s (top df) [] ws).0.clauses) (sym h) ∙ text_is s t df
 
+  tree_fine : (end : ℕ) (ls : List Letter) (t : TextForm) → leaves t ≡ whats (lexemes_of end ls)
+      → all_fine s most (top df) [] (whats (lexemes_of end ls)) ≡ text_right s.fields most df t
+  tree_fine end ls t h =
+      ap (all_fine s most (top df) []) (sym h) ∙ text_fine s most t df (subst AllFollow (sym h) (letters_follow end ls))
+
   means_from : (end : ℕ) (ls : List Letter) (q : Query) → AreOfQuery s most df end ls → q ≡ value_of end ls → LettersMean s most df end ls q
   means_from end ls q a h =
       let r : AllThemselves s most (lexemes_of end ls) × (all_fine s most (top df) [] (whats (lexemes_of end ls)) ≡ true) =
@@ -348,15 +357,14 @@ module _ (s : Setting) (most : ℕ) (df : Option ℕ) where
         tree = a.forms.0;
         leaves = a.forms.1;
         itself = r.0;
-        right = sym (text_fine s most a.forms.0 df) ∙ (ap (all_fine s most (top df) []) a.forms.1 ∙ r.1);
+        right = sym (tree_fine end ls a.forms.0 a.forms.1) ∙ r.1;
         means = h ∙ value_is end ls a.forms.0 a.forms.1;
       }
 
   are_from : (end : ℕ) (ls : List Letter) (q : Query) → LettersMean s most df end ls q → AreOfQuery s most df end ls
   are_from end ls q m = record {
     forms = (m.tree, m.leaves);
-    right = all_right s most (lexemes_of end ls) (top df) [] m.itself
-        (ap (all_fine s most (top df) []) (sym m.leaves) ∙ (text_fine s most m.tree df ∙ m.right));
+    right = all_right s most (lexemes_of end ls) (top df) [] m.itself (tree_fine end ls m.tree m.leaves ∙ m.right);
   }
 
   ok_same : (a b : Query) → ◌≡◌ {A = Result Query QueryFault} (Ok a) (Ok b) → a ≡ b

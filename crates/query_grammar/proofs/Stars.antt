@@ -1,8 +1,8 @@
 -- Where a value begins, the lexeme is one other than `*` exactly where `begins_other` says so.
-use Rattle.std.proofs.Common.{◌≡◌, ◌∷◌, [], ℕ, List, Bool, true, false, not, Option, None, Some, Result, Ok, Err, refl, ap, sym, ◌∙◌, ⊎_elim}
-use Rattle.std.specs.Prelude.{◌||◌, ◌&&◌, ◌==◌, is_none, if◌then◌else◌, length}
+use Rattle.std.proofs.Common.{◌≡◌, ◌∷◌, [], ℕ, List, Bool, true, false, not, Option, None, Some, Result, Ok, Err, refl, ap, sym, ◌∙◌}
+use Rattle.std.specs.Prelude.{◌||◌, ◌&&◌, ◌==◌, is_none, if◌then◌else◌}
 use Rattle.std.specs.Option.{option_map_or}
-use Rattle.std.proofs.lemmas.Bool.{and_parts, and_from, and_right, or_parts, or_left, or_right, or_from, not-true, not_from_false, true≢false, false≢true, eqb-true, eq-eqb}
+use Rattle.std.proofs.lemmas.Bool.{and_parts, and_from, and_right, or_parts, or_left, or_right, or_from, not_from_false, true≢false, eqb-true}
 use Rattle.query_lexemes.specs.declared.letter.Letter.{Letter}
 use Rattle.query_lexemes.specs.declared.fault.QueryFault.TheVariants as fault
 use Rattle.query_lexemes.specs.declared.lexeme.Lexeme.{Lexeme}
@@ -10,8 +10,8 @@ use Rattle.query_lexemes.specs.declared.lexeme.What.{What}
 use Rattle.query_lexemes.specs.declared.lexeme.What.TheVariants as what
 use Rattle.query_lexemes.specs.declared.lexeme.Operator.{Operator}
 use Rattle.query_lexemes.specs.declared.lexeme.Bound.{Bound}
-use Rattle.query_lexemes.specs.Letters.{stands, goes_on, begins_word, is_lone, at_front, skip, text_of, has_escape}
-use Rattle.query_lexemes.specs.Lexemes.{right, wrong, place, tail, operator_of, is_filter, behind, prefix, plain_word, word, opens, is_value, begins_other, star, quoted, bound, between, range_close, range_to, range_between, range_from, range, special, flaw, lexeme}
+use Rattle.query_lexemes.specs.Letters.{stands, begins_word, is_lone, at_front, skip}
+use Rattle.query_lexemes.specs.Lexemes.{right, wrong, operator_of, is_filter, behind, prefix, plain_word, word, opens, is_value, begins_other, star, quoted, bound, between, range_close, range_to, range_between, range_from, range, special, lexeme}
 
 -- what begins with letters of which b says whether a value other than `*` begins there
 abbrev pub Tells : Bool → What → Type 0

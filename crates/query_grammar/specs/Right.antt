@@ -8,11 +8,19 @@ use Rattle.query_text.specs.Faults.{is_long, is_no_number, is_whole, most_deep}
 use Rattle.query_grammar.specs.Forms.{FieldForm, name, any, Single, word, prefix, quoted, star, range, QueryForm, first, next, ClauseForm, clause, BodyForm, body, ValueForm, single, group, TextForm, blank, query}
 use Rattle.query_grammar.specs.Meaning.{Place, behind_field}
 
+abbrev pub is_star : ValueForm → Bool
+is_star (single (word text)) = false
+is_star (single (prefix text)) = false
+is_star (single (quoted text)) = false
+is_star (single star) = true
+is_star (single (range low from to high)) = false
+is_star (group q) = false
+
 -- an indexed field has the name, and `*:` stands before `*` alone
-abbrev pub field_right : List Field → Option FieldForm → Bool
-field_right fields None = true
-field_right fields (Some (name text colon)) = is_some (indexed text fields)
-field_right fields (Some (any colon other)) = not other
+abbrev pub field_right : List Field → Option FieldForm → ValueForm → Bool
+field_right fields None v = true
+field_right fields (Some (name text colon)) v = is_some (indexed text fields)
+field_right fields (Some (any colon other)) v = is_star v
 
 -- there is a field, and it holds of its type
 abbrev pub in_known : List Field → Place → (FieldType → Bool) → Bool
@@ -49,7 +57,7 @@ unfoldable mutual
   clause_right fields most depth p (clause m b) = body_right fields most depth p b
 
   pub body_right : List Field → ℕ → ℕ → Place → BodyForm → Bool
-  body_right fields most depth p (body f v) = field_right fields f && value_right fields most depth (behind_field fields p f) v
+  body_right fields most depth p (body f v) = field_right fields f v && value_right fields most depth (behind_field fields p f) v
 
   pub value_right : List Field → ℕ → ℕ → Place → ValueForm → Bool
   value_right fields most depth p (single w) = single_right fields most depth p w

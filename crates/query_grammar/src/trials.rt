@@ -1,13 +1,17 @@
 //! The forms are tried on short lists of lexemes. Each function does nothing: its clauses are what the trial shows.
-ghost use Rattle.std.specs.Prelude.{◌≡◌, ◌∷◌, [], None};
+ghost use Rattle.std.specs.Prelude.{◌≡◌, ◌∷◌, [], None, false, true};
 ghost use Rattle.query_grammar.specs.Forms.{AreOfForms, leaves};
 ghost use Rattle.query_grammar.specs.Meaning.{meaning};
+ghost use Rattle.query_grammar.specs.Right.{text_right};
 ghost use Rattle.query_grammar.specs.Trials.{AreOfNoForms, a, and_, any_value, b, cat, closing, ended, every, minus, not_, opening, or_, plus, setting, worked, worked_query};
 
-/// `+cat:(a b) AND NOT *:*` is of a tree, which asks for documents with `a` or `b` in the field, and for none.
+/// `+cat:(a b) AND NOT *:*` is of a tree, which is right under a limit of two clauses and not of one, and means the
+/// documents that have `a` or `b` in the field and are not among all.
 pub fn worked_query_has_a_tree()
     ensures forms { leaves worked ≡ ended (plus ∷ cat ∷ opening ∷ a ∷ b ∷ closing
         ∷ and_ ∷ not_ ∷ every ∷ any_value ∷ []) }
+    ensures right { text_right setting.fields 2 None worked ≡ true }
+    ensures limit { text_right setting.fields 1 None worked ≡ false }
     ensures means { meaning setting None worked ≡ worked_query }
 {}
 
