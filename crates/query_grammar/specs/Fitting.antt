@@ -37,7 +37,9 @@ stands l os what.Flaw = false
 abbrev pub AllStand : Setting → Level → List Level → List What → Type 0
 AllStand s l os [] = Unit {0}
 AllStand s l os (w ∷ ws) =
-    (stands l os w ≡ true) × (is_finish w ≡ true → ws ≡ []) × AllStand s (after s l os w).0 (after s l os w).1 ws
+    (stands l os w ≡ true)
+    × (is_finish w ≡ true → ws ≡ [])
+    × AllStand s (after s l os w).0 (after s l os w).1 ws
 
 -- the query, and those that it is inside, behind all of them
 abbrev pub behind_all : Setting → Level → List Level → List What → Level × List Level
@@ -54,7 +56,8 @@ pub record HasFirstFault (s : Setting) (l : Level) (os : List Level) (ws : List 
   pub goes_on : list_any is_finish front ≡ false
   pub fault : stands (behind_all s l os front).0 (behind_all s l os front).1 first ≡ false
 
--- all of them can stand, but perhaps for an operator at their end, behind which stands a byte with a fault of its own
+-- all of them can stand, but perhaps for an operator at their end, behind which stands a byte with a fault
+-- of its own
 abbrev pub AllButOperatorStand : Setting → Level → List Level → List What → Type 0
 AllButOperatorStand s l os ws =
     AllStand s l os ws

@@ -14,7 +14,7 @@ use Rattle.query_text.specs.Reads.{Setting, sign_of}
 use Rattle.query_grammar.specs.Forms.{Conjunction, both, either, Modifier, sign, negation, FieldForm, name, any, Single, word, prefix, quoted, star, range, QueryForm, first, next, ClauseForm, clause, BodyForm, body, ValueForm, single, group, TextForm, blank, query as a_query}
 use Rattle.query_grammar.specs.Fitting.{TypeOf}
 
--- where a value stands: its field, and whether a name gives it that
+-- where a value stands: its field, and whether `field:` or `*:` before it, or before a query that it is in, says so
 pub record Place : Type 0 where
   pub field : Option ℕ
   pub named : Bool
@@ -25,7 +25,7 @@ behind_field fields p None = p
 behind_field fields p (Some (name text colon)) = record { field = indexed text fields; named = true }
 behind_field fields p (Some (any colon other)) = record { field = None; named = true }
 
--- a query of the field and its type; without a field the text does not read
+-- a query of the field and its type; a value without a field is not right
 abbrev pub in_field : Setting → Place → (FieldType → ℕ → Query) → Query
 in_field s p q = option_map_or (λ f. q (kind_at s.fields f) f) p.field query.All
 

@@ -32,32 +32,36 @@ fits k text = not (is_long (Some k) && is_no_number text)
 
 -- a word of several tokens counts as a query in parentheses, with a clause for each
 abbrev pub has_room : ℕ → ℕ → List (List ℕ) → Bool
-has_room most depth words = not (nat_lt 1 (length words)) || (nat_lt depth most_deep && nat_le (length words) most)
+has_room most depth words =
+    not (nat_lt 1 (length words)) || (nat_lt depth most_deep && nat_le (length words) most)
 
--- a value of one lexeme inside so many parentheses
+-- a value of one lexeme, inside so many parentheses
 abbrev pub single_right : List Field → ℕ → ℕ → Place → Single → Bool
 single_right fields most depth p (word text) =
     in_known fields p (λ k. fits k (Some text) && has_room most depth (words_in (Some k) (Some text)))
 single_right fields most depth p (prefix text) = in_known fields p (λ k. not (is_whole (Some k)))
 single_right fields most depth p (quoted text) = in_known fields p (λ k. fits k (Some text))
 single_right fields most depth p star = true
-single_right fields most depth p (range low from to high) = in_known fields p (λ k. fits k from.text && fits k to.text)
+single_right fields most depth p (range low from to high) =
+    in_known fields p (λ k. fits k from.text && fits k to.text)
 
 unfoldable pub clause_count : QueryForm → ℕ
 clause_count (first c) = 1
 clause_count (next q j c) = suc (clause_count q)
 
 unfoldable mutual
-  -- each of its clauses
+  -- each clause of a query is right, inside so many parentheses, with at most so many clauses in each query
   pub clauses_right : List Field → ℕ → ℕ → Place → QueryForm → Bool
   clauses_right fields most depth p (first c) = clause_right fields most depth p c
-  clauses_right fields most depth p (next q j c) = clauses_right fields most depth p q && clause_right fields most depth p c
+  clauses_right fields most depth p (next q j c) =
+      clauses_right fields most depth p q && clause_right fields most depth p c
 
   pub clause_right : List Field → ℕ → ℕ → Place → ClauseForm → Bool
   clause_right fields most depth p (clause m b) = body_right fields most depth p b
 
   pub body_right : List Field → ℕ → ℕ → Place → BodyForm → Bool
-  body_right fields most depth p (body f v) = field_right fields f v && value_right fields most depth (behind_field fields p f) v
+  body_right fields most depth p (body f v) =
+      field_right fields f v && value_right fields most depth (behind_field fields p f) v
 
   pub value_right : List Field → ℕ → ℕ → Place → ValueForm → Bool
   value_right fields most depth p (single w) = single_right fields most depth p w

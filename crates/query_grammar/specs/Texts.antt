@@ -37,7 +37,8 @@ abbrev pub whats : List Lexeme → List What
 whats xs = map (λ x. x.what) xs
 
 -- a lexeme tells no fault but that it can't stand where it stands
-pub record IsRight (fields : List Field) (most : ℕ) (l : Level) (os : List Level) (x : Lexeme) : Type 0 where
+pub record IsRight (fields : List Field) (most : ℕ) (l : Level) (os : List Level) (x : Lexeme)
+    : Type 0 where
   pub itself : x.wrong ≡ None
   pub field : unknown_field fields l x.at x.what ≡ None
   pub number : bad_number (kind_for fields l) l x.at x.what ≡ None
@@ -54,7 +55,8 @@ AllRight s most l os (x ∷ xs) =
     IsRight s.fields most l os x × AllRight s most (after s l os x.what).0 (after s l os x.what).1 xs
 
 -- the lexemes of the letters are those of a tree of the forms, and each is right
-pub record AreOfQuery (s : Setting) (most : ℕ) (df : Option ℕ) (end : ℕ) (ls : List Letter) : Type 0 where
+pub record AreOfQuery (s : Setting) (most : ℕ) (df : Option ℕ) (end : ℕ) (ls : List Letter)
+    : Type 0 where
   pub forms : AreOfForms (whats (lexemes_of end ls))
   pub right : AllRight s most (top df) [] (lexemes_of end ls)
 
@@ -67,7 +69,8 @@ pub record LettersMean (s : Setting) (most : ℕ) (df : Option ℕ) (end : ℕ) 
   pub right : text_right s.fields most df tree ≡ true
   pub means : q ≡ meaning s df tree
 
--- local parameters and the letters of the query behind them, or none and all letters; nothing where they have a fault
+-- local parameters and the letters of the query behind them, or none and all letters; nothing where
+-- they have a fault
 abbrev pub query_letters : ℕ → List Letter → Option (Local × List Letter)
 query_letters end ls =
     option_map_or (λ params. result_ok (local end params)) (behind_mark ls) (Some (no_local, ls))
@@ -80,7 +83,8 @@ pub record IsOfQuery (s : Setting) (most : ℕ) (df : Option ℕ) (text : List �
   pub query : AreOfQuery s most df (length text) letters
 
 -- what is read of a text: what its letters mean, and what its local parameters say
-pub record TextMeans (s : Setting) (most : ℕ) (df : Option ℕ) (text : List ℕ) (read : Parsed) : Type 0 where
+pub record TextMeans (s : Setting) (most : ℕ) (df : Option ℕ) (text : List ℕ) (read : Parsed)
+    : Type 0 where
   pub params : Local
   pub letters : List Letter
   pub behind : query_letters (length text) (letters_of text) ≡ Some (params, letters)
@@ -89,13 +93,14 @@ pub record TextMeans (s : Setting) (most : ℕ) (df : Option ℕ) (text : List �
   pub cost : read.cost ≡ params.cost
 
 -- a lexeme tells the fault that counts, and those before it can stand
-pub record TellsFirst (s : Setting) (most : ℕ) (l : Level) (os : List Level) (xs : List Lexeme) (f : QueryFault)
-    : Type 0 where
+pub record TellsFirst
+    (s : Setting) (most : ℕ) (l : Level) (os : List Level) (xs : List Lexeme) (f : QueryFault) : Type 0 where
   pub front : List Lexeme
   pub first : Lexeme
   pub rest : List Lexeme
   pub are : xs ≡ front ++ first ∷ rest
   pub goes_on : list_any is_finish (whats front) ≡ false
   pub stand : AllButOperatorStand s l os (whats front)
-  pub tells : least (told s.fields most (behind_all s l os (whats front)).0 (behind_all s l os (whats front)).1 first)
+  pub tells :
+      least (told s.fields most (behind_all s l os (whats front)).0 (behind_all s l os (whats front)).1 first)
       ≡ Some f

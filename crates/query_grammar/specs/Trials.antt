@@ -62,21 +62,27 @@ AreOfNoForms ws = AreOfForms (ended ws) → ⊥
 -- ---- the tree of `+cat:(a b) AND NOT *:*`
 
 abbrev pub a_or_b : QueryForm
-a_or_b = next (first (clause None (body None (single (word (codes "a")))))) None (clause None (body None (single (word (codes "b")))))
+a_or_b =
+    next (first (clause None (body None (single (word (codes "a")))))) None
+    (clause None (body None (single (word (codes "b")))))
 
 abbrev pub worked : TextForm
 worked =
-    query (next (first (clause (Some (sign false)) (body (Some (name (codes "cat") 0)) (group a_or_b)))) (Some (both None))
+    query (next
+    (first (clause (Some (sign false)) (body (Some (name (codes "cat") 0)) (group a_or_b)))) (Some (both None))
     (clause (Some (negation None)) (body (Some (any 0 false)) (single star))))
 
 -- a schema with an indexed field `cat` of whole texts, and Or
 abbrev pub setting : Setting
 setting = record {
-  fields = (record { name = codes "cat"; kind = kind.Str; multi = false; stored = true; indexed = true }) ∷ [];
+  fields =
+      (record { name = codes "cat"; kind = kind.Str; multi = false; stored = true; indexed = true }) ∷ [];
   op = op.Or;
 }
 
 -- the documents that have `a` or `b` in the field, and not all others
 abbrev pub worked_query : Query
 worked_query =
-    parts.Bool (parts.Bool [] (docs.Term 0 (key.Str (codes "a")) ∷ docs.Term 0 (key.Str (codes "b")) ∷ []) [] ∷ []) [] (docs.All ∷ [])
+    parts.Bool
+    (parts.Bool [] (docs.Term 0 (key.Str (codes "a")) ∷ docs.Term 0 (key.Str (codes "b")) ∷ []) [] ∷ []) []
+    (docs.All ∷ [])
