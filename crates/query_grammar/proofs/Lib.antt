@@ -9,3 +9,4 @@ pub mod Parts
 pub mod Trees
 pub mod Following
 pub mod Right
+pub mod Means

@@ -4,4 +4,5 @@ pub mod Meaning
 pub mod Right
 pub mod Texts
 pub mod Laws
+pub mod Guide
 pub mod Trials

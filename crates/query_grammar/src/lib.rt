@@ -2,5 +2,6 @@
 //! no code here: each function does nothing, and its clause is a law.
 #![tactic(auto)]
 
+pub mod guide;
 pub mod laws;
 pub mod trials;
