@@ -1,0 +1,5 @@
+pub mod Holding
+pub mod Naming
+pub mod Owners
+pub mod Renaming
+pub mod Runs

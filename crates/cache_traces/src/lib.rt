@@ -1,0 +1,17 @@
+//! A cache with the calls that were made of it: whose each was, its key, its answer, and the numbers of its value on which the
+//! machine goes on. Keys are kept once, and the machine runs over their numbers. Which calls may follow each other is a
+//! definition over any keys and values, with its laws.
+#![tactic(auto)]
+
+mod cells;
+mod counted;
+pub mod laws;
+mod record;
+mod told;
+mod trace;
+
+pub use cells::{Looked, TracedCells};
+pub use counted::Counted;
+pub use record::{Done, Record};
+pub use told::Told;
+pub use trace::Trace;
