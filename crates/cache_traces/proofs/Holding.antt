@@ -1,8 +1,9 @@
 -- What each call leaves of a cache with its trace.
 use Rattle.std.proofs.Common.{◌≡◌, ℕ, zero, suc, ◌+◌, ◌<◌, ◌≤◌, Bool, true, false, List, [], ◌∷◌, ◌++◌, cond, map, length, length-set, Option, Some, None, refl, true≢false, sym, ap, subst, ◌∙◌, rules, arith, if◌then◌else◌, slice_get}
-use Rattle.std.specs.Prelude.{option_and_then, slice_set, replicate, nat_eq}
+use Rattle.std.specs.Prelude.{Result, Ok, Err, OnOk, OnErr, IsSome, is_some, option_map, option_and_then, slice_set, replicate, nat_eq}
 use Rattle.std.specs.Option.{option_map_or}
-use Rattle.std.specs.List.{AllByRecursion, IsDistinct}
+use Rattle.std.specs.List.{AllByRecursion, IsDistinct, cons_option}
+use Rattle.std.specs.Result.{is_ok}
 use Rattle.std.specs.Cmp.{IsEquivalence}
 use Rattle.std.specs.Map.{remove_entry}
 use Rattle.std.proofs.lemmas.Option.{none-some}
@@ -10,8 +11,8 @@ use Rattle.cache_machine.specs.declared.look.Look.{Look}
 use Rattle.cache_machine.specs.declared.look.Look.TheVariants.{Hit, Join, Own}
 use Rattle.cache_machine.specs.Machine.{Kept, Cache, empty_cache, with_entries, owned_by, stored, cut, is_light, look_answer, after_answer, after_look, released, finished as after_finish}
 use Rattle.cache_traces.specs.Acts.{Act, Step, looked, finished, gave_up}
-use Rattle.cache_traces.specs.Looking.{renamed}
-use Rattle.cache_traces.specs.NamedCache.{IsIn, OwnsIn, named_owner, named_cache, AreIn}
+use Rattle.cache_traces.specs.Looking.{renamed, keyless, answer_of, told_of, with_look}
+use Rattle.cache_traces.specs.NamedCache.{IsIn, AllIn, OwnsIn, named_owner, named_entries, named_cache, AreIn}
 use Rattle.cache_traces.specs.Traced.{and_then}
 use Rattle.cache_traces.specs.TracedCache.{TracedCache, IsTraced, owner_count, Holds}
 use Rattle.cache_traces.specs.Traces.{Rules, told, after_end, HasNumbers, Follows, LeadsTo, begun, gone_on}
@@ -97,7 +98,7 @@ module _ {K V : Type 0} (eq : K → K → Bool) where
 -- ---- calls
 
 module _ {K V N : Type 0} (r : Rules K V N) (keys : List K) where
-  many : (os : List (Option ℕ)) → length (map (named_owner keys) os) ≡ length os
+  pub many : (os : List (Option ℕ)) → length (map (named_owner keys) os) ≡ length os
   many [] = refl
   many (o ∷ os) = ap suc (many os)
 
@@ -206,3 +207,84 @@ module _ {K V N : Type 0} (r : Rules K V N) where
       ends = h.ends;
       traced = subst (λ d. IsTraced r (record { keys = keys ++ more; cache = d; steps = steps })) (sym (cache_grown keys more c h.in_keys)) h.traced;
     }
+
+-- ---- for the calls' answers
+
+-- the sizes of what is kept
+pub count_named : {K V : Type 0} (keys : List K) (es : List (ℕ × V)) → AllIn keys es → length (named_entries keys es) ≡ length es
+count_named keys [] all = refl
+count_named keys (e ∷ es) all = ap (λ o. length (cons_option (option_map (λ k. (k, e.1)) o) (named_entries keys es))) all.0.1 ∙ ap suc (count_named keys es all.1)
+
+seat_within : {K : Type 0} (os : List (Option K)) (seat : ℕ) (k : K) → option_and_then (λ o. o) (slice_get os seat) ≡ Some k → seat < length os
+seat_within [] seat k is = absurd (none-some k is)
+seat_within (o ∷ os) zero k is = omega arith
+seat_within (o ∷ os) (suc seat) k is = let rest = seat_within os seat k is in omega arith
+
+-- a number that is a key's has a name
+pub some_named : {K A : Type 0} (f : K → A) (keys : List K) (n : ℕ) → IsIn keys n → IsSome (option_map f (slice_get keys n))
+some_named f keys n one = ap (λ o. is_some (option_map f o)) one.1
+
+module _ {K V N : Type 0} (r : Rules K V N) (keys : List K) (laws : IsEquivalence r.eq) (steps : List (Step K N)) (room : ℕ) (c : Cache ℕ V) (seat : ℕ) (h : Holds r keys steps room c) (n : ℕ) (owned : owned_by c seat ≡ Some n) where
+  -- the key that the seat owns
+  pub owned_key : IsIn keys n
+  owned_key = subst (OwnsIn keys) owned (owned_at keys c.pending seat h.in_keys.owned_in)
+
+  -- and in the machine's state
+  pub owned_named : owned_by (named_cache keys c) seat ≡ slice_get keys n
+  owned_named = same_owned laws keys h.distinct seat c ∙ ap (named_owner keys) owned
+
+  pub owns_key : owned_by (named_cache keys c) seat ≡ Some owned_key.0
+  owns_key = owned_named ∙ owned_key.1
+
+  pub room_for_end : 1 ≤ room
+  room_for_end = let ends = h.ends in let count = count_ended c.pending seat n owned in omega arith
+
+  pub gave_up_holds : (more : ℕ) → more + 1 ≡ room → Holds r keys (and_then steps seat (gave_up owned_key.0)) more (released seat c)
+  gave_up_holds more less = gave r keys laws steps room more c seat h (seat_within c.pending seat n owned) owned_key.0 owns_key (sym less)
+
+  pub finished_holds : (v : V) (most more : ℕ) {T E : Type 0} (result : Result T E) (next : Cache ℕ V) → more + 1 ≡ room
+      → OnOk result (next ≡ after_finish nat_eq r.weight seat v (r.keeps (r.numbers most v)) c) → OnErr result (next ≡ released seat c)
+      → Holds r keys (and_then steps seat (finished owned_key.0 (r.numbers most v) (is_ok result))) more next
+  finished_holds v most more (Ok x) next less ok err = subst (Holds r keys (and_then steps seat (finished owned_key.0 (r.numbers most v) true)) more) (sym ok) (ended_with r keys laws steps room more c seat h (seat_within c.pending seat n owned) owned_key.0 owns_key v most (sym less))
+  finished_holds v most more (Err e) next less ok err = subst (Holds r keys (and_then steps seat (finished owned_key.0 (r.numbers most v) false)) more) (sym err) (ended_without r keys laws steps room more c seat h (seat_within c.pending seat n owned) owned_key.0 owns_key v most (sym less))
+
+module _ {K V N : Type 0} (r : Rules K V N) where
+  -- the same, of equal parts
+  pub moved : (keys ls : List K) (steps ss : List (Step K N)) (room more : ℕ) (c d : Cache ℕ V) → Holds r keys steps room c → ls ≡ keys → ss ≡ steps → more ≡ room → d ≡ c → Holds r ls ss more d
+  moved keys ls steps ss room more c d h a b e f =
+      subst (λ x. Holds r x ss more d) (sym a) (subst (λ x. Holds r keys x more d) (sym b) (subst (λ x. Holds r keys steps x d) (sym e) (subst (Holds r keys steps room) (sym f) h)))
+
+  module _ (keys : List K) (laws : IsEquivalence r.eq) (steps : List (Step K N)) (room more : ℕ) (c : Cache ℕ V) (seat : ℕ) (h : Holds r keys steps room c) (in_seats : seat < length c.pending) where
+    kept_or : (n : ℕ) (k : K) (need : ℕ) (again : Bool) (a : Look ℕ V) → Holds r keys (and_then steps seat (looked k need again (told a))) more (after_answer nat_eq n seat c a) → Holds r keys steps more c
+        → Holds r keys (with_look steps seat k need again (told a)) more (after_answer nat_eq n seat c a)
+    kept_or n k need true (Hit v) kept same = kept
+    kept_or n k need true (Join m owner) kept same = same
+    kept_or n k need true Own kept same = kept
+    kept_or n k need false (Hit v) kept same = kept
+    kept_or n k need false (Join m owner) kept same = kept
+    kept_or n k need false Own kept same = kept
+
+    -- after a look-up, kept among the calls or not
+    pub looked_holds : (n : ℕ) (k : K) (need : ℕ) (again : Bool) → slice_get keys n ≡ Some k → owned_by (named_cache keys c) seat ≡ None → length c.pending ≤ more
+        → Holds r keys (with_look steps seat k need again (told (look_answer nat_eq (r.serves need) n c))) more (after_look nat_eq (r.serves need) n seat c)
+    looked_holds n k need again is idle few =
+        kept_or n k need again (look_answer nat_eq (r.serves need) n c)
+        (looked_up r keys laws steps room more c seat h in_seats n k need again is idle few) (unkept r keys laws steps room more c seat h in_seats few)
+
+pub on_ok : {T E P Q : Type 0} (result : Result T E) → (P → Q) → OnOk result P → OnOk result Q
+on_ok (Ok x) f p = f p
+on_ok (Err e) f p = tt
+
+pub on_err : {T E P Q : Type 0} (result : Result T E) → (P → Q) → OnErr result P → OnErr result Q
+on_err (Ok x) f p = tt
+on_err (Err e) f p = f p
+
+pub answer_keyless : {J K V : Type 0} (k : K) (a : Look J V) → answer_of k (keyless a) ≡ renamed k a
+answer_keyless k (Hit v) = refl
+answer_keyless k (Join n owner) = refl
+answer_keyless k Own = refl
+
+pub told_keyless : {J V : Type 0} (a : Look J V) → told_of (keyless a) ≡ told a
+told_keyless (Hit v) = refl
+told_keyless (Join n owner) = refl
+told_keyless Own = refl
