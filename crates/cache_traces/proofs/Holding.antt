@@ -10,7 +10,9 @@ use Rattle.std.proofs.lemmas.Option.{none-some}
 use Rattle.cache_machine.specs.declared.look.Look.{Look}
 use Rattle.cache_machine.specs.declared.look.Look.TheVariants.{Hit, Join, Own}
 use Rattle.cache_machine.specs.Machine.{Kept, Cache, empty_cache, with_entries, owned_by, stored, cut, is_light, look_answer, after_answer, after_look, released, finished as after_finish}
-use Rattle.cache_traces.specs.Acts.{Act, Step, looked, finished, gave_up}
+use Rattle.cache_traces.specs.declared.act.Act.{Act}
+use Rattle.cache_traces.specs.declared.act.Step.{Step}
+use Rattle.cache_traces.specs.declared.act.Act.TheVariants.{Looked, Finished, GaveUp}
 use Rattle.cache_traces.specs.Looking.{renamed, keyless, answer_of, told_of, with_look}
 use Rattle.cache_traces.specs.NamedCache.{IsIn, AllIn, OwnsIn, named_owner, named_entries, named_cache, AreIn}
 use Rattle.cache_traces.specs.Traced.{and_then}
@@ -116,13 +118,13 @@ module _ {K V N : Type 0} (r : Rules K V N) (keys : List K) where
 
   module _ (laws : IsEquivalence r.eq) (steps : List (Step K N)) (room more : ℕ) (c : Cache ℕ V) (seat : ℕ) (h : Holds r keys steps room c) (in_seats : seat < length c.pending) where
     pub looked_up : (n : ℕ) (k : K) (need : ℕ) (again : Bool) → slice_get keys n ≡ Some k → owned_by (named_cache keys c) seat ≡ None → length c.pending ≤ more →
-        Holds r keys (and_then steps seat (looked k need again (told (look_answer nat_eq (r.serves need) n c)))) more (after_look nat_eq (r.serves need) n seat c)
+        Holds r keys (and_then steps seat (Looked k need again (told (look_answer nat_eq (r.serves need) n c)))) more (after_look nat_eq (r.serves need) n seat c)
     looked_up n k need again is idle few =
         let next = after_look nat_eq (r.serves need) n seat c in
         let moved = same_after laws keys h.distinct n k is (r.serves need) seat c h.in_keys in
         let answer = told_renamed k (look_answer nat_eq (r.serves need) n c) in
         let same = same_answer laws keys h.distinct n k is (r.serves need) c h.in_keys in
-        step steps room more c next seat (looked k need again (told (look_answer nat_eq (r.serves need) n c))) h in_seats
+        step steps room more c next seat (Looked k need again (told (look_answer nat_eq (r.serves need) n c))) h in_seats
         (subst (IsSized (named_cache keys c)) moved (sized_look r.eq (r.serves need) k seat (named_cache keys c)))
         (idle, sym answer ∙ ap told (sym same), sym moved)
         (in_look laws keys h.distinct n k is (r.serves need) seat c h.in_keys)
@@ -144,24 +146,24 @@ module _ {K V N : Type 0} (r : Rules K V N) (keys : List K) where
           let count = count_ended c.pending seat one.0 one.1 in
           let ends = h.ends in omega arith
 
-      pub gave : room ≡ more + 1 → Holds r keys (and_then steps seat (gave_up k)) more (released seat c)
+      pub gave : room ≡ more + 1 → Holds r keys (and_then steps seat (GaveUp k)) more (released seat c)
       gave less =
           let moved = same_released laws keys h.distinct seat c in
-          step steps room more c (released seat c) seat (gave_up k) h in_seats
+          step steps room more c (released seat c) seat (GaveUp k) h in_seats
           (subst (IsSized (named_cache keys c)) moved (sized_released r.eq seat (named_cache keys c))) (owns, sym moved) (in_released laws keys h.distinct seat c h.in_keys) (fewer less)
 
-      pub ended_without : (v : V) (most : ℕ) → room ≡ more + 1 → Holds r keys (and_then steps seat (finished k (r.numbers most v) false)) more (released seat c)
+      pub ended_without : (v : V) (most : ℕ) → room ≡ more + 1 → Holds r keys (and_then steps seat (Finished k (r.numbers most v) false)) more (released seat c)
       ended_without v most less =
           let moved = same_released laws keys h.distinct seat c in
-          step steps room more c (released seat c) seat (finished k (r.numbers most v) false) h in_seats
+          step steps room more c (released seat c) seat (Finished k (r.numbers most v) false) h in_seats
           (subst (IsSized (named_cache keys c)) moved (sized_released r.eq seat (named_cache keys c))) (owns, (v, (most, refl), sym moved)) (in_released laws keys h.distinct seat c h.in_keys) (fewer less)
 
-      pub ended_with : (v : V) (most : ℕ) → room ≡ more + 1 → Holds r keys (and_then steps seat (finished k (r.numbers most v) true)) more (after_finish nat_eq r.weight seat v (r.keeps (r.numbers most v)) c)
+      pub ended_with : (v : V) (most : ℕ) → room ≡ more + 1 → Holds r keys (and_then steps seat (Finished k (r.numbers most v) true)) more (after_finish nat_eq r.weight seat v (r.keeps (r.numbers most v)) c)
       ended_with v most less =
           let keep = r.keeps (r.numbers most v) in
           let next = after_finish nat_eq r.weight seat v keep c in
           let moved = same_finished laws keys h.distinct r.weight seat v keep c h.in_keys in
-          step steps room more c next seat (finished k (r.numbers most v) true) h in_seats
+          step steps room more c next seat (Finished k (r.numbers most v) true) h in_seats
           (subst (IsSized (named_cache keys c)) moved (sized_finished r.eq r.weight seat v (named_cache keys c) keep)) (owns, (v, (most, refl), sym moved)) (in_finished laws keys h.distinct r.weight seat v keep c h.in_keys)
           (subst (λ os. owner_count os ≤ more) (sym (pending-finish nat_eq r.weight seat v keep c)) (fewer less))
 
@@ -239,14 +241,14 @@ module _ {K V N : Type 0} (r : Rules K V N) (keys : List K) (laws : IsEquivalenc
   pub room_for_end : 1 ≤ room
   room_for_end = let ends = h.ends in let count = count_ended c.pending seat n owned in omega arith
 
-  pub gave_up_holds : (more : ℕ) → more + 1 ≡ room → Holds r keys (and_then steps seat (gave_up owned_key.0)) more (released seat c)
+  pub gave_up_holds : (more : ℕ) → more + 1 ≡ room → Holds r keys (and_then steps seat (GaveUp owned_key.0)) more (released seat c)
   gave_up_holds more less = gave r keys laws steps room more c seat h (seat_within c.pending seat n owned) owned_key.0 owns_key (sym less)
 
   pub finished_holds : (v : V) (most more : ℕ) {T E : Type 0} (result : Result T E) (next : Cache ℕ V) → more + 1 ≡ room
       → OnOk result (next ≡ after_finish nat_eq r.weight seat v (r.keeps (r.numbers most v)) c) → OnErr result (next ≡ released seat c)
-      → Holds r keys (and_then steps seat (finished owned_key.0 (r.numbers most v) (is_ok result))) more next
-  finished_holds v most more (Ok x) next less ok err = subst (Holds r keys (and_then steps seat (finished owned_key.0 (r.numbers most v) true)) more) (sym ok) (ended_with r keys laws steps room more c seat h (seat_within c.pending seat n owned) owned_key.0 owns_key v most (sym less))
-  finished_holds v most more (Err e) next less ok err = subst (Holds r keys (and_then steps seat (finished owned_key.0 (r.numbers most v) false)) more) (sym err) (ended_without r keys laws steps room more c seat h (seat_within c.pending seat n owned) owned_key.0 owns_key v most (sym less))
+      → Holds r keys (and_then steps seat (Finished owned_key.0 (r.numbers most v) (is_ok result))) more next
+  finished_holds v most more (Ok x) next less ok err = subst (Holds r keys (and_then steps seat (Finished owned_key.0 (r.numbers most v) true)) more) (sym ok) (ended_with r keys laws steps room more c seat h (seat_within c.pending seat n owned) owned_key.0 owns_key v most (sym less))
+  finished_holds v most more (Err e) next less ok err = subst (Holds r keys (and_then steps seat (Finished owned_key.0 (r.numbers most v) false)) more) (sym err) (ended_without r keys laws steps room more c seat h (seat_within c.pending seat n owned) owned_key.0 owns_key v most (sym less))
 
 module _ {K V N : Type 0} (r : Rules K V N) where
   -- the same, of equal parts
@@ -255,7 +257,7 @@ module _ {K V N : Type 0} (r : Rules K V N) where
       subst (λ x. Holds r x ss more d) (sym a) (subst (λ x. Holds r keys x more d) (sym b) (subst (λ x. Holds r keys steps x d) (sym e) (subst (Holds r keys steps room) (sym f) h)))
 
   module _ (keys : List K) (laws : IsEquivalence r.eq) (steps : List (Step K N)) (room more : ℕ) (c : Cache ℕ V) (seat : ℕ) (h : Holds r keys steps room c) (in_seats : seat < length c.pending) where
-    kept_or : (n : ℕ) (k : K) (need : ℕ) (again : Bool) (a : Look ℕ V) → Holds r keys (and_then steps seat (looked k need again (told a))) more (after_answer nat_eq n seat c a) → Holds r keys steps more c
+    kept_or : (n : ℕ) (k : K) (need : ℕ) (again : Bool) (a : Look ℕ V) → Holds r keys (and_then steps seat (Looked k need again (told a))) more (after_answer nat_eq n seat c a) → Holds r keys steps more c
         → Holds r keys (with_look steps seat k need again (told a)) more (after_answer nat_eq n seat c a)
     kept_or n k need true (Hit v) kept same = kept
     kept_or n k need true (Join m owner) kept same = same

@@ -9,7 +9,9 @@ use Rattle.indexmap.specs.IndexSet.{insert_key}
 use Rattle.cache_traces.specs.declared.record.Done.{Done}
 use Rattle.cache_traces.specs.declared.record.Done.TheVariants as done
 use Rattle.cache_traces.specs.declared.record.Record.{Record}
-use Rattle.cache_traces.specs.Acts.{Act, Step, looked, finished, gave_up, listed}
+use Rattle.cache_traces.specs.declared.act.Act.{Act}
+use Rattle.cache_traces.specs.declared.act.Step.{Step}
+use Rattle.cache_traces.specs.declared.act.Act.TheVariants.{Looked, Finished, GaveUp, Listed}
 use Rattle.cache_traces.specs.Named.{all_named, named, step_of, steps_of, AllNamed}
 use Rattle.cache_traces.specs.Traced.{Grows, and_then}
 
@@ -41,16 +43,16 @@ module _ {K : Type 0} where
 
   module _ {N : Type 0} where
     abbrev pub look_up : ℕ → Bool → Told → K → Act K N
-    look_up need again told k = looked k need again told
+    look_up need again told k = Looked k need again told
 
     abbrev pub end_with : N → Bool → K → Act K N
-    end_with numbers stored k = finished k numbers stored
+    end_with numbers stored k = Finished k numbers stored
 
     abbrev pub end_without : K → Act K N
-    end_without k = gave_up k
+    end_without k = GaveUp k
 
     abbrev pub list : ℕ → List K → Act K N
-    list most ks = listed most ks
+    list most ks = Listed most ks
 
     named_front : (ks more : List K) (d : Done N) → IsSome (named ks d) → named (ks ++ more) d ≡ named ks d
     named_front ks more (done.Looked key need again told) h = ap (option_map (look_up need again told)) (get_front ks more key (there (look_up need again told) (slice_get ks key) h))

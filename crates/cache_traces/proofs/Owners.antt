@@ -7,7 +7,10 @@ use Rattle.cache_machine.specs.declared.look.Look.TheVariants as look
 use Rattle.cache_machine.specs.Machine.{Cache, empty_cache, owned_by, look_answer, after_answer, after_look, finished as after_finish, released, stored as stored_in}
 use Rattle.cache_traces.specs.declared.told.Told.{Told}
 use Rattle.cache_traces.specs.declared.told.Told.TheVariants.{Hit, Joined, Owned}
-use Rattle.cache_traces.specs.Acts.{Act, Step, calls_of, owned_then, owned_from, owned_after, looked, finished, gave_up, listed}
+use Rattle.cache_traces.specs.declared.act.Act.{Act}
+use Rattle.cache_traces.specs.declared.act.Step.{Step}
+use Rattle.cache_traces.specs.declared.act.Act.TheVariants.{Looked, Finished, GaveUp, Listed}
+use Rattle.cache_traces.specs.Acts.{calls_of, owned_then, owned_from, owned_after}
 use Rattle.cache_traces.specs.Traces.{Rules, told, after_end, Follows, LeadsTo, begun, gone_on, IsTrace}
 
 -- ---- lists of owned keys
@@ -112,20 +115,20 @@ module _ {K V N : Type 0} (r : Rules K V N) where
     others = λ m h. ap (λ os. owner os m) is;
   }
 
-  answered : (seat : ℕ) (c next : Cache K V) (k : K) (need : ℕ) (again : Bool) (t : Told) (a : Look K V) → seat < length c.pending → t ≡ told a → next ≡ after_answer r.eq k seat c a → Leaves seat c (looked k need again t) next
-  answered seat c next k need again t (look.Hit v) within is moved = keeps seat c next (looked k need again t) (ap (λ (d : Cache K V). d.pending) moved) (ap (λ u. owned_then {N = N} (owned_by c seat) (looked k need again u)) (sym is))
-  answered seat c next k need again t (look.Join j o) within is moved = keeps seat c next (looked k need again t) (ap (λ (d : Cache K V). d.pending) moved) (ap (λ u. owned_then {N = N} (owned_by c seat) (looked k need again u)) (sym is))
-  answered seat c next k need again t look.Own within is moved = sets seat c next (looked k need again t) (Some k) within (ap (λ (d : Cache K V). d.pending) moved) (ap (λ u. owned_then {N = N} (owned_by c seat) (looked k need again u)) (sym is))
+  answered : (seat : ℕ) (c next : Cache K V) (k : K) (need : ℕ) (again : Bool) (t : Told) (a : Look K V) → seat < length c.pending → t ≡ told a → next ≡ after_answer r.eq k seat c a → Leaves seat c (Looked k need again t) next
+  answered seat c next k need again t (look.Hit v) within is moved = keeps seat c next (Looked k need again t) (ap (λ (d : Cache K V). d.pending) moved) (ap (λ u. owned_then {N = N} (owned_by c seat) (Looked k need again u)) (sym is))
+  answered seat c next k need again t (look.Join j o) within is moved = keeps seat c next (Looked k need again t) (ap (λ (d : Cache K V). d.pending) moved) (ap (λ u. owned_then {N = N} (owned_by c seat) (Looked k need again u)) (sym is))
+  answered seat c next k need again t look.Own within is moved = sets seat c next (Looked k need again t) (Some k) within (ap (λ (d : Cache K V). d.pending) moved) (ap (λ u. owned_then {N = N} (owned_by c seat) (Looked k need again u)) (sym is))
 
   pending-end : (seat : ℕ) (v : V) (n : N) (stored : Bool) (c : Cache K V) → (after_end r seat v n stored c).pending ≡ slice_set c.pending seat None
   pending-end seat v n true c = pending-finish r.eq r.weight seat v (r.keeps n) c
   pending-end seat v n false c = refl
 
   leaves : (seat : ℕ) (c next : Cache K V) (a : Act K N) → seat < length c.pending → Follows r seat c a next → Leaves seat c a next
-  leaves seat c next (looked k need again t) within f = answered seat c next k need again t (look_answer r.eq (r.serves need) k c) within f.1 f.2
-  leaves seat c next (finished k n stored) within f = sets seat c next (finished k n stored) None within (ap (λ (d : Cache K V). d.pending) f.1.2 ∙ pending-end seat f.1.0 n stored c) refl
-  leaves seat c next (gave_up k) within f = sets seat c next (gave_up k) None within (ap (λ (d : Cache K V). d.pending) f.1) refl
-  leaves seat c next (listed n ks) within f = keeps seat c next (listed n ks) (ap (λ (d : Cache K V). d.pending) f.1) refl
+  leaves seat c next (Looked k need again t) within f = answered seat c next k need again t (look_answer r.eq (r.serves need) k c) within f.1 f.2
+  leaves seat c next (Finished k n stored) within f = sets seat c next (Finished k n stored) None within (ap (λ (d : Cache K V). d.pending) f.1.2 ∙ pending-end seat f.1.0 n stored c) refl
+  leaves seat c next (GaveUp k) within f = sets seat c next (GaveUp k) None within (ap (λ (d : Cache K V). d.pending) f.1) refl
+  leaves seat c next (Listed n ks) within f = keeps seat c next (Listed n ks) (ap (λ (d : Cache K V). d.pending) f.1) refl
 
   -- ---- traces
 

@@ -3,7 +3,9 @@ use Rattle.std.proofs.Common.{◌≡◌, ℕ, ◌<◌, Bool, true, false, List, 
 use Rattle.cache_machine.specs.declared.look.Look.{Look}
 use Rattle.cache_machine.specs.Machine.{Cache, empty_cache, look_answer}
 use Rattle.cache_machine.specs.Runs.{Call, Answer, look, finish, give_up, recent, looked as answered, done, keys, no_memory, Allows, IsRun}
-use Rattle.cache_traces.specs.Acts.{Act, Step, looked, finished, gave_up, listed}
+use Rattle.cache_traces.specs.declared.act.Act.{Act}
+use Rattle.cache_traces.specs.declared.act.Step.{Step}
+use Rattle.cache_traces.specs.declared.act.Act.TheVariants.{Looked, Finished, GaveUp, Listed}
 use Rattle.cache_traces.specs.Traces.{Rules, told, after_end, Follows, LeadsTo, begun, gone_on, IsTrace}
 use Rattle.cache_traces.specs.Laws.{IsToldOf, AreToldOf}
 
@@ -14,17 +16,17 @@ module _ {K V N : Type 0} (r : Rules K V N) where
     is_told : IsToldOf r seat a pair
     is_allowed : Allows r.eq r.weight c pair.0 pair.1 next
 
-  ended : (seat : ℕ) (c next : Cache K V) (k : K) (n : N) (stored : Bool) → Follows r seat c (finished k n stored) next → Asked seat c (finished k n stored) next
+  ended : (seat : ℕ) (c next : Cache K V) (k : K) (n : N) (stored : Bool) → Follows r seat c (Finished k n stored) next → Asked seat c (Finished k n stored) next
   ended seat c next k n true f = record { pair = (finish seat f.1.0 (r.keeps n), done); is_told = (f.1.0, f.1.1, refl); is_allowed = f.1.2 }
   ended seat c next k n false f = record { pair = (finish seat f.1.0 (r.keeps n), no_memory); is_told = (f.1.0, f.1.1, refl); is_allowed = f.1.2 }
 
   asked : (seat : ℕ) (c next : Cache K V) (a : Act K N) → Follows r seat c a next → Asked seat c a next
-  asked seat c next (looked k need again t) f =
+  asked seat c next (Looked k need again t) f =
       let a = look_answer r.eq (r.serves need) k c in
       record { pair = (look k (r.serves need) seat, answered a); is_told = (a, refl, sym f.1); is_allowed = (refl, f.2) }
-  asked seat c next (finished k n stored) f = ended seat c next k n stored f
-  asked seat c next (gave_up k) f = record { pair = (give_up seat, done); is_told = refl; is_allowed = f.1 }
-  asked seat c next (listed n ks) f = record { pair = (recent n, keys ks); is_told = refl; is_allowed = f }
+  asked seat c next (Finished k n stored) f = ended seat c next k n stored f
+  asked seat c next (GaveUp k) f = record { pair = (give_up seat, done); is_told = refl; is_allowed = f.1 }
+  asked seat c next (Listed n ks) f = record { pair = (recent n, keys ks); is_told = refl; is_allowed = f }
 
   told-then : (ss : List (Step K N)) (ps : List (Call K V × Answer K V)) (s : Step K N) (p : Call K V × Answer K V) → AreToldOf r ss ps → IsToldOf r s.seat s.act p → AreToldOf r (ss ++ s ∷ []) (ps ++ p ∷ [])
   told-then [] [] s p all one = (one, tt)

@@ -1,20 +1,9 @@
 -- What is kept of the calls of a cache.
 use Rattle.std.specs.Prelude.{ℕ, ◌==◌, Bool, List, [], ◌∷◌, Option, Some, None, if◌then◌else◌}
-use Rattle.cache_traces.specs.declared.told.Told.{Told}
+use Rattle.cache_traces.specs.declared.act.Act.{Act}
+use Rattle.cache_traces.specs.declared.act.Act.TheVariants.{Looked, Finished, GaveUp, Listed}
+use Rattle.cache_traces.specs.declared.act.Step.{Step}
 use Rattle.cache_traces.specs.declared.told.Told.TheVariants.{Hit, Joined, Owned}
-
--- A call with its answer. A look-up has its key, what it needs, whether it is asked again after Join, and what it was answered; the end
--- of a key the numbers of its value, and whether there was memory; a list of recent keys how many were asked for, and the keys.
-pub data Act (K N : Type 0) : Type 0 where
-  looked : K → ℕ → Bool → Told → Act K N
-  finished : K → N → Bool → Act K N
-  gave_up : K → Act K N
-  listed : ℕ → List K → Act K N
-
--- a call of a seat
-pub record Step (K N : Type 0) : Type 0 where
-  pub seat : ℕ
-  pub act : Act K N
 
 module _ {K N : Type 0} where
   -- the calls of one seat, in their order
@@ -24,12 +13,12 @@ module _ {K N : Type 0} where
 
   -- the key that a seat owns after a call
   abbrev pub owned_then : Option K → Act K N → Option K
-  owned_then o (looked k need again Hit) = o
-  owned_then o (looked k need again (Joined owner)) = o
-  owned_then o (looked k need again Owned) = Some k
-  owned_then o (finished k n stored) = None
-  owned_then o (gave_up k) = None
-  owned_then o (listed n ks) = o
+  owned_then o (Looked k need again Hit) = o
+  owned_then o (Looked k need again (Joined owner)) = o
+  owned_then o (Looked k need again Owned) = Some k
+  owned_then o (Finished k n stored) = None
+  owned_then o (GaveUp k) = None
+  owned_then o (Listed n ks) = o
 
   -- the key that a seat owns after calls, where it owned one before or none
   abbrev pub owned_from : Option K → List (Act K N) → Option K

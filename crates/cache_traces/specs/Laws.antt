@@ -3,7 +3,10 @@ use Rattle.std.specs.Prelude.{◌≡◌, ℕ, ◌<◌, Bool, List, [], ◌∷◌
 use Rattle.cache_machine.specs.declared.look.Look.{Look}
 use Rattle.cache_machine.specs.Machine.{Cache, empty_cache, owned_by}
 use Rattle.cache_machine.specs.Runs.{Call, Answer, look, finish, give_up, recent, looked as answered, done, keys, no_memory, IsRun}
-use Rattle.cache_traces.specs.Acts.{Act, Step, calls_of, owned_after, looked, finished, gave_up, listed}
+use Rattle.cache_traces.specs.declared.act.Act.{Act}
+use Rattle.cache_traces.specs.declared.act.Step.{Step}
+use Rattle.cache_traces.specs.declared.act.Act.TheVariants.{Looked, Finished, GaveUp, Listed}
+use Rattle.cache_traces.specs.Acts.{calls_of, owned_after}
 use Rattle.cache_traces.specs.Traces.{Rules, HasNumbers, IsTrace, told}
 
 -- The key that a seat owns is the one that its own calls leave it.
@@ -16,12 +19,12 @@ OwnersAreTold K V N =
 module _ {K V N : Type 0} (r : Rules K V N) where
   -- a call of the seat, and what the machine was asked and answered
   abbrev pub IsToldOf : ℕ → Act K N → Call K V × Answer K V → Type 0
-  IsToldOf seat (looked k need again t) p =
+  IsToldOf seat (Looked k need again t) p =
       (a : Look K V) × (p ≡ (look k (r.serves need) seat, answered a)) × (told a ≡ t)
-  IsToldOf seat (finished k n stored) p =
+  IsToldOf seat (Finished k n stored) p =
       (v : V) × HasNumbers r v n × (p ≡ (finish seat v (r.keeps n), if stored then done else no_memory))
-  IsToldOf seat (gave_up k) p = p ≡ (give_up seat, done)
-  IsToldOf seat (listed n ks) p = p ≡ (recent n, keys ks)
+  IsToldOf seat (GaveUp k) p = p ≡ (give_up seat, done)
+  IsToldOf seat (Listed n ks) p = p ≡ (recent n, keys ks)
 
   -- one for each
   abbrev pub AreToldOf : List (Step K N) → List (Call K V × Answer K V) → Type 0

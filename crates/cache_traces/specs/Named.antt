@@ -4,7 +4,9 @@ use Rattle.std.specs.List.{filter_map, AllByRecursion}
 use Rattle.cache_traces.specs.declared.record.Done.{Done}
 use Rattle.cache_traces.specs.declared.record.Done.TheVariants as done
 use Rattle.cache_traces.specs.declared.record.Record.{Record}
-use Rattle.cache_traces.specs.Acts.{Act, Step, looked, finished, gave_up, listed}
+use Rattle.cache_traces.specs.declared.act.Act.{Act}
+use Rattle.cache_traces.specs.declared.act.Step.{Step}
+use Rattle.cache_traces.specs.declared.act.Act.TheVariants.{Looked, Finished, GaveUp, Listed}
 
 module _ {K : Type 0} (keys : List K) where
   -- the keys of these numbers, where each is one's
@@ -14,10 +16,10 @@ module _ {K : Type 0} (keys : List K) where
 
   module _ {N : Type 0} where
     abbrev pub named : Done N → Option (Act K N)
-    named (done.Looked key need again told) = option_map (λ k. looked k need again told) (slice_get keys key)
-    named (done.Finished key numbers stored) = option_map (λ k. finished k numbers stored) (slice_get keys key)
-    named (done.GaveUp key) = option_map gave_up (slice_get keys key)
-    named (done.Listed most ns) = option_map (listed most) (all_named ns.items)
+    named (done.Looked key need again told) = option_map (λ k. Looked k need again told) (slice_get keys key)
+    named (done.Finished key numbers stored) = option_map (λ k. Finished k numbers stored) (slice_get keys key)
+    named (done.GaveUp key) = option_map GaveUp (slice_get keys key)
+    named (done.Listed most ns) = option_map (Listed most) (all_named ns.items)
 
     -- the call that a record tells, where its numbers are those of keys
     abbrev pub step_of : Record N → Option (Step K N)

@@ -1,6 +1,7 @@
 -- What contracts see of a trace.
 use Rattle.std.specs.Prelude.{ℕ, ◌∷◌, [], ◌++◌, List, Bool, true, ◌≡◌}
-use Rattle.cache_traces.specs.Acts.{Act, Step}
+use Rattle.cache_traces.specs.declared.act.Act.{Act}
+use Rattle.cache_traces.specs.declared.act.Step.{Step}
 
 -- the keys in the order of their first uses, the calls in theirs, and how many more there is room for
 pub record Traced (K N : Type 0) : Type 0 where

@@ -3,7 +3,7 @@ use Rattle.std.specs.Prelude.{◌≡◌, ℕ, ◌+◌, ◌≤◌, List, [], ◌�
 use Rattle.std.specs.List.{IsDistinct}
 use Rattle.cache_machine.specs.Machine.{Cache}
 use Rattle.cache_traces.specs.NamedCache.{AreIn, named_cache}
-use Rattle.cache_traces.specs.Acts.{Step}
+use Rattle.cache_traces.specs.declared.act.Step.{Step}
 use Rattle.cache_traces.specs.Traces.{Rules, IsTrace}
 
 -- the keys by number, the machine's state, and the calls that led to it

@@ -5,7 +5,9 @@ use Rattle.cache_machine.specs.declared.look.Look.TheVariants as look
 use Rattle.cache_machine.specs.Machine.{Cache, empty_cache, owned_by, look_answer, after_look, finished as after_finish, released, recent_keys}
 use Rattle.cache_traces.specs.declared.told.Told.{Told}
 use Rattle.cache_traces.specs.declared.told.Told.TheVariants.{Hit, Joined, Owned}
-use Rattle.cache_traces.specs.Acts.{Act, Step, looked, finished, gave_up, listed}
+use Rattle.cache_traces.specs.declared.act.Act.{Act}
+use Rattle.cache_traces.specs.declared.act.Step.{Step}
+use Rattle.cache_traces.specs.declared.act.Act.TheVariants.{Looked, Finished, GaveUp, Listed}
 
 -- what is answered, without the value
 abbrev pub told : {K V : Type 0} → Look K V → Told
@@ -13,7 +15,7 @@ told (look.Hit v) = Hit
 told (look.Join k owner) = Joined owner
 told look.Own = Owned
 
--- How a cache knows its keys and values: what a value weighs, whether it serves a need, its numbers where at most so many may be listed,
+-- How a cache knows its keys and values: what a value weighs, whether it serves a need, its numbers where at most so many may be Listed,
 -- and whether a value of these numbers may be kept.
 pub record Rules (K V N : Type 0) : Type 0 where
   pub eq : K → K → Bool
@@ -37,14 +39,14 @@ module _ {K V N : Type 0} (r : Rules K V N) where
 
   -- The seat may be answered so in this state, and that state is next. Who looks up owns nothing, and only who owns a key ends it.
   abbrev pub Follows : ℕ → Cache K V → Act K N → Cache K V → Type 0
-  Follows seat c (looked k need again a) next =
+  Follows seat c (Looked k need again a) next =
       (owned_by c seat ≡ None) × (a ≡ told (look_answer r.eq (r.serves need) k c))
       × (next ≡ after_look r.eq (r.serves need) k seat c)
-  Follows seat c (finished k n stored) next =
+  Follows seat c (Finished k n stored) next =
       (owned_by c seat ≡ Some k)
       × ((v : V) × HasNumbers v n × (next ≡ after_end seat v n stored c))
-  Follows seat c (gave_up k) next = (owned_by c seat ≡ Some k) × (next ≡ released seat c)
-  Follows seat c (listed n ks) next = (ks ≡ recent_keys n c.kept) × (next ≡ c)
+  Follows seat c (GaveUp k) next = (owned_by c seat ≡ Some k) × (next ≡ released seat c)
+  Follows seat c (Listed n ks) next = (ks ≡ recent_keys n c.kept) × (next ≡ c)
 
   -- the calls lead from the first state to the last
   pub data LeadsTo (first : Cache K V) : List (Step K N) → Cache K V → Type 0 where

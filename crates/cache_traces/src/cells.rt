@@ -1,7 +1,7 @@
 ghost use Rattle.std.specs.Prelude.{◌≡◌, ◌<◌, ◌≤◌, ◌+◌, Bool, true, IfOk, OnOk, OnErr, IsSome, IfSome, None, Some, [], length, slice_get};
 ghost use Rattle.std.specs.Result.{is_ok};
 ghost use Rattle.cache_machine.specs.Machine.{empty_cache, owned_by, look_answer, after_look, finished as after_finish, released, recent_keys};
-ghost use Rattle.cache_traces.specs.Acts.{finished, gave_up, listed};
+ghost use Rattle.cache_traces.specs.declared.act.Act.TheVariants.{Finished, GaveUp};
 ghost use Rattle.cache_traces.specs.Looking.{answer_of, told_of, keyless, is_joined, with_look};
 ghost use Rattle.cache_traces.specs.Named.{all_named};
 ghost use Rattle.cache_traces.specs.Traced.{AreSame, and_then};
@@ -142,7 +142,7 @@ impl<K: Eq + Hash + Drop, V: Counted> TracedCells<K, V> {
             (V.keeps (V.numbers most value)) self.old.cache) }
         ensures no_memory { OnErr result (self.new.cache ≡ released seat self.old.cache) }
         ensures steps { (k : K) → owned_by self.old.cache seat ≡ Some k
-            → self.new.steps ≡ and_then self.old.steps seat (finished k (V.numbers most value) (is_ok result)) }
+            → self.new.steps ≡ and_then self.old.steps seat (Finished k (V.numbers most value) (is_ok result)) }
     {
         let key = owned(&self.cells, seat);
         let numbers = value.numbers(most);
@@ -164,7 +164,7 @@ impl<K: Eq + Hash + Drop, V: Counted> TracedCells<K, V> {
         ensures keys { self.new.keys ≡ self.old.keys }
         ensures after { self.new.cache ≡ released seat self.old.cache }
         ensures steps { (k : K) → owned_by self.old.cache seat ≡ Some k
-            → self.new.steps ≡ and_then self.old.steps seat (gave_up k) }
+            → self.new.steps ≡ and_then self.old.steps seat (GaveUp k) }
     {
         let key = self.cells.release(seat);
         self.trace.push(seat, Done::GaveUp { key });

@@ -3,6 +3,7 @@
 //! definition over any keys and values, with its laws.
 #![tactic(auto)]
 
+mod act;
 mod cells;
 mod counted;
 pub mod laws;
@@ -10,6 +11,7 @@ mod record;
 mod told;
 mod trace;
 
+pub use act::{Act, Step};
 pub use cells::{Looked, TracedCells};
 pub use counted::Counted;
 pub use record::{Done, Record};

@@ -1,6 +1,6 @@
 ghost use Rattle.std.specs.Prelude.{◌≡◌, ◌+◌, ◌≤◌, IfOk, OnOk, OnErr, IfSome, Some, IsSome, [], slice_get};
 ghost use Rattle.std.specs.List.{IsDistinct};
-ghost use Rattle.cache_traces.specs.Acts.{Act};
+ghost use Rattle.cache_traces.specs.declared.act.Act.{Act};
 ghost use Rattle.cache_traces.specs.Named.{named};
 ghost use Rattle.cache_traces.specs.Traced.{AreSame, Grows, and_then};
 

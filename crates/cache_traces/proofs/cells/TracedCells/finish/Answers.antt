@@ -2,7 +2,8 @@ use Rattle.std.proofs.Common.{rules, ◌≡◌, ℕ, ◌+◌, ◌≤◌, List, S
 use Rattle.std.specs.Prelude.{nat_eq, option_map, OnOk, OnErr, Result, Ok, Err, Bool}
 use Rattle.cache_machine.specs.Machine.{released, owned_by, finished as after_finish}
 use Rattle.std.specs.Result.{is_ok}
-use Rattle.cache_traces.specs.Acts.{Act, finished}
+use Rattle.cache_traces.specs.declared.act.Act.{Act}
+use Rattle.cache_traces.specs.declared.act.Act.TheVariants.{Finished}
 use Rattle.cache_traces.specs.NamedCache.{named_cache}
 use Rattle.cache_traces.specs.Traced.{and_then}
 use Rattle.cache_traces.specs.Traces.{rules as of}
@@ -33,8 +34,8 @@ invariant_of-self g c =
     let keep_is : c.keeps-keep.result ≡ g.V.Counted.keeps numbers = c.keeps-keep.ensures ∙ ap g.V.Counted.keeps c.numbers-numbers.ensures in
     let ok = subst (λ b. OnOk result (next ≡ after_finish nat_eq g.V.Value.weight c.args.seat c.args.value b inside.cells)) keep_is c.finish-result.ensures.after in
     let key = owned_key r inside.trace.keys g.met.K.Eq.laws inside.trace.steps inside.trace.room inside.cells c.args.seat c.self.invariant n c.owned-key.ensures in
-    let told = c.push.ensures.step (finished key.0 numbers (is_ok result)) (λ i. option_map (λ k. finished k (c.numbers-numbers.ensures i) (c.is_ok-stored.ensures.value i)) (key.1 i)) in
-    moved r inside.trace.keys c.push.new.self.keys (and_then inside.trace.steps c.args.seat (finished key.0 numbers (is_ok result))) c.push.new.self.steps c.push.new.self.room c.push.new.self.room next next
+    let told = c.push.ensures.step (Finished key.0 numbers (is_ok result)) (λ i. option_map (λ k. Finished k (c.numbers-numbers.ensures i) (c.is_ok-stored.ensures.value i)) (key.1 i)) in
+    moved r inside.trace.keys c.push.new.self.keys (and_then inside.trace.steps c.args.seat (Finished key.0 numbers (is_ok result))) c.push.new.self.steps c.push.new.self.room c.push.new.self.room next next
     (finished_holds r inside.trace.keys g.met.K.Eq.laws inside.trace.steps inside.trace.room inside.cells c.args.seat c.self.invariant n c.owned-key.ensures c.args.value c.args.most c.push.new.self.room result next c.push.ensures.room ok c.finish-result.ensures.no_memory)
     c.push.ensures.keys told refl refl
 
@@ -69,5 +70,5 @@ returns-clause-steps g c k owns =
     let result = c.finish-result.result in
     let named = owned_named r inside.trace.keys g.met.K.Eq.laws inside.trace.steps inside.trace.room inside.cells c.args.seat c.self.invariant n c.owned-key.ensures in
     let is : slice_get inside.trace.keys n ≡ Some k = sym named ∙ ap (λ v. owned_by v.cache c.args.seat) c.self.view_is ∙ owns in
-    c.push.ensures.step (finished k numbers (is_ok result)) (λ i. option_map (λ j. finished j (c.numbers-numbers.ensures i) (c.is_ok-stored.ensures.value i)) (is i))
-    ∙ ap (λ v. and_then v.steps c.args.seat (finished k numbers (is_ok result))) c.self.view_is
+    c.push.ensures.step (Finished k numbers (is_ok result)) (λ i. option_map (λ j. Finished j (c.numbers-numbers.ensures i) (c.is_ok-stored.ensures.value i)) (is i))
+    ∙ ap (λ v. and_then v.steps c.args.seat (Finished k numbers (is_ok result))) c.self.view_is

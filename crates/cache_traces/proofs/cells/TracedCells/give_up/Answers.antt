@@ -1,7 +1,7 @@
 use Rattle.std.proofs.Common.{rules, ◌≡◌, ℕ, ◌+◌, ◌≤◌, List, Some, Option, sym, ap, subst, ◌∙◌, length, slice_get, refl, arith}
 use Rattle.std.specs.Prelude.{option_map}
 use Rattle.cache_machine.specs.Machine.{released, owned_by}
-use Rattle.cache_traces.specs.Acts.{gave_up}
+use Rattle.cache_traces.specs.declared.act.Act.TheVariants.{GaveUp}
 use Rattle.cache_traces.specs.NamedCache.{named_cache}
 use Rattle.cache_traces.specs.Traced.{and_then}
 use Rattle.cache_traces.specs.Traces.{rules as of}
@@ -19,7 +19,7 @@ pub push-requires-clause-named : goal.push-requires-clause-named
 push-requires-clause-named g c =
     let r = of g.K.PartialEq.eq g.V.Value.weight g.V.Value.serves g.V.Counted.numbers g.V.Counted.keeps in
     let inside = c.self.inside in
-    some_named gave_up inside.trace.keys c.release-key.result (owned_key r inside.trace.keys g.met.K.Eq.laws inside.trace.steps inside.trace.room inside.cells c.args.seat c.self.invariant c.release-key.result c.release-key.ensures.key)
+    some_named GaveUp inside.trace.keys c.release-key.result (owned_key r inside.trace.keys g.met.K.Eq.laws inside.trace.steps inside.trace.room inside.cells c.args.seat c.self.invariant c.release-key.result c.release-key.ensures.key)
 
 pub invariant_of-self : goal.invariant_of-self
 invariant_of-self g c =
@@ -27,8 +27,8 @@ invariant_of-self g c =
     let inside = c.self.inside in
     let n = c.release-key.result in
     let key = owned_key r inside.trace.keys g.met.K.Eq.laws inside.trace.steps inside.trace.room inside.cells c.args.seat c.self.invariant n c.release-key.ensures.key in
-    let told = c.push.ensures.step (gave_up key.0) (ap (λ o. option_map gave_up o) key.1) in
-    moved r inside.trace.keys c.push.new.self.keys (and_then inside.trace.steps c.args.seat (gave_up key.0)) c.push.new.self.steps c.push.new.self.room c.push.new.self.room (released c.args.seat inside.cells) c.release-key.new.self
+    let told = c.push.ensures.step (GaveUp key.0) (ap (λ o. option_map GaveUp o) key.1) in
+    moved r inside.trace.keys c.push.new.self.keys (and_then inside.trace.steps c.args.seat (GaveUp key.0)) c.push.new.self.steps c.push.new.self.room c.push.new.self.room (released c.args.seat inside.cells) c.release-key.new.self
     (gave_up_holds r inside.trace.keys g.met.K.Eq.laws inside.trace.steps inside.trace.room inside.cells c.args.seat c.self.invariant n c.release-key.ensures.key c.push.new.self.room c.push.ensures.room)
     c.push.ensures.keys told refl c.release-key.ensures.after
 
@@ -45,4 +45,4 @@ returns-clause-steps g c k owns =
     let n = c.release-key.result in
     let named = owned_named r inside.trace.keys g.met.K.Eq.laws inside.trace.steps inside.trace.room inside.cells c.args.seat c.self.invariant n c.release-key.ensures.key in
     let is : slice_get inside.trace.keys n ≡ Some k = sym named ∙ ap (λ v. owned_by v.cache c.args.seat) c.self.view_is ∙ owns in
-    c.push.ensures.step (gave_up k) (ap (λ o. option_map gave_up o) is) ∙ ap (λ v. and_then v.steps c.args.seat (gave_up k)) c.self.view_is
+    c.push.ensures.step (GaveUp k) (ap (λ o. option_map GaveUp o) is) ∙ ap (λ v. and_then v.steps c.args.seat (GaveUp k)) c.self.view_is
