@@ -1,19 +1,20 @@
 -- What each call leaves of a cache with its trace.
 use Rattle.std.proofs.Common.{◌≡◌, ℕ, zero, suc, ◌+◌, ◌<◌, ◌≤◌, Bool, true, false, List, [], ◌∷◌, ◌++◌, cond, map, length, length-set, Option, Some, None, refl, true≢false, sym, ap, subst, ◌∙◌, rules, arith, if◌then◌else◌, slice_get}
-use Rattle.std.specs.Prelude.{Result, Ok, Err, OnOk, OnErr, IsSome, is_some, option_map, option_and_then, slice_set, replicate, nat_eq}
+use Rattle.std.specs.Prelude.{Result, Ok, Err, OnOk, OnErr, IsSome, is_some, option_map, option_and_then, take, slice_set, replicate, nat_eq}
 use Rattle.std.specs.Option.{option_map_or}
 use Rattle.std.specs.List.{AllByRecursion, IsDistinct, cons_option}
 use Rattle.std.specs.Result.{is_ok}
 use Rattle.std.specs.Cmp.{IsEquivalence}
-use Rattle.std.specs.Map.{remove_entry}
+use Rattle.std.specs.Map.{keys_of, remove_entry}
 use Rattle.std.proofs.lemmas.Option.{none-some}
 use Rattle.cache_machine.specs.declared.look.Look.{Look}
 use Rattle.cache_machine.specs.declared.look.Look.TheVariants.{Hit, Join, Own}
-use Rattle.cache_machine.specs.Machine.{Kept, Cache, empty_cache, with_entries, owned_by, stored, cut, is_light, look_answer, after_answer, after_look, released, finished as after_finish}
+use Rattle.cache_machine.specs.Machine.{Kept, Cache, empty_cache, with_entries, owned_by, stored, cut, is_light, look_answer, after_answer, after_look, released, finished as after_finish, recent_keys}
 use Rattle.cache_traces.specs.declared.act.Act.{Act}
 use Rattle.cache_traces.specs.declared.act.Step.{Step}
-use Rattle.cache_traces.specs.declared.act.Act.TheVariants.{Looked, Finished, GaveUp}
+use Rattle.cache_traces.specs.declared.act.Act.TheVariants.{Looked, Finished, GaveUp, Listed}
 use Rattle.cache_traces.specs.Looking.{renamed, keyless, answer_of, told_of, with_look}
+use Rattle.cache_traces.specs.Named.{all_named}
 use Rattle.cache_traces.specs.NamedCache.{IsIn, AllIn, OwnsIn, named_owner, named_entries, named_cache, AreIn}
 use Rattle.cache_traces.specs.Traced.{and_then}
 use Rattle.cache_traces.specs.TracedCache.{TracedCache, IsTraced, owner_count, Holds}
@@ -290,3 +291,30 @@ pub told_keyless : {J V : Type 0} (a : Look J V) → told_of (keyless a) ≡ tol
 told_keyless (Hit v) = refl
 told_keyless (Join n owner) = refl
 told_keyless Own = refl
+
+-- ---- the most recent keys
+
+abbrev pub listing : {K : Type 0} (N : Type 0) → ℕ → List K → Act K N
+listing N most ks = Listed most ks
+
+module _ {K V : Type 0} (keys : List K) where
+  -- the numbers of entries name their keys
+  names_all : (es : List (ℕ × V)) → AllIn keys es → (count : ℕ) → all_named keys (take count (keys_of es)) ≡ Some (take count (keys_of (named_entries keys es)))
+  names_all es all zero = refl
+  names_all [] all (suc count) = refl
+  names_all (e ∷ es) all (suc count) =
+      ap (λ o. option_and_then (λ k. option_map (λ ks. k ∷ ks) (all_named keys (take count (keys_of es)))) o) all.0.1
+      ∙ ap (option_map (λ ks. all.0.0 ∷ ks)) (names_all es all.1 count)
+      ∙ ap (λ o. Some (take (suc count) (keys_of (cons_option (option_map (λ k. (k, e.1)) o) (named_entries keys es))))) (sym all.0.1)
+
+  pub names_recent : (most : ℕ) (c : Cache ℕ V) → AreIn keys c → all_named keys (recent_keys most c.kept) ≡ Some (recent_keys most (named_cache keys c).kept)
+  names_recent most c ins = names_all c.kept.entries ins.entries_in most
+
+module _ {K V N : Type 0} (r : Rules K V N) (keys : List K) (steps : List (Step K N)) (room more : ℕ) (c : Cache ℕ V) (seat : ℕ) (h : Holds r keys steps room c) (in_seats : seat < length c.pending) where
+  pub listed_holds : (most : ℕ) → length c.pending ≤ more → Holds r keys (and_then steps seat (Listed most (recent_keys most (named_cache keys c).kept))) more c
+  listed_holds most few =
+      step r keys steps room more c c seat (Listed most (recent_keys most (named_cache keys c).kept)) h in_seats
+      (record { size = refl; greatest = refl; seats = refl }) (refl, refl) h.in_keys (few_after c.pending c.pending refl few)
+
+pub some_listed : {K : Type 0} (N : Type 0) (most : ℕ) {o : Option (List K)} {ks : List K} → o ≡ Some ks → IsSome (option_map (λ l. listing N most l) o)
+some_listed N most is = ap (λ o. is_some (option_map (λ l. listing N most l) o)) is

@@ -1,7 +1,7 @@
 ghost use Rattle.std.specs.Prelude.{◌≡◌, ◌<◌, ◌≤◌, ◌+◌, Bool, true, IfOk, OnOk, OnErr, IsSome, IfSome, None, Some, [], length, slice_get};
 ghost use Rattle.std.specs.Result.{is_ok};
 ghost use Rattle.cache_machine.specs.Machine.{empty_cache, owned_by, look_answer, after_look, finished as after_finish, released, recent_keys};
-ghost use Rattle.cache_traces.specs.declared.act.Act.TheVariants.{Finished, GaveUp};
+ghost use Rattle.cache_traces.specs.declared.act.Act.TheVariants.{Finished, GaveUp, Listed};
 ghost use Rattle.cache_traces.specs.Looking.{answer_of, told_of, keyless, is_joined, with_look};
 ghost use Rattle.cache_traces.specs.Named.{all_named};
 ghost use Rattle.cache_traces.specs.Traced.{AreSame, and_then};
@@ -170,6 +170,35 @@ impl<K: Eq + Hash + Drop, V: Counted> TracedCells<K, V> {
         self.trace.push(seat, Done::GaveUp { key });
     }
 
+    /// The key of a number. It takes no memory.
+    pub fn key(&self, number: u32) -> &K
+        requires { number < length self.now.keys }
+        ensures { slice_get self.now.keys number ≡ Some result.now }
+    {
+        self.trace.key(number)
+    }
+
+    /// The numbers of the most recently used keys, at most so many, the most recent first. It costs a step for each.
+    ///
+    /// Where memory is wanting, nothing changed.
+    pub fn recent(&mut self, alloc: Global, most: u32, seat: u32) -> Result<Vec<u32>, AllocError>
+        requires seat { seat < length self.old.cache.pending }
+        ensures keys { self.new.keys ≡ self.old.keys }
+        ensures cache { self.new.cache ≡ self.old.cache }
+        ensures answer { IfOk result (λ ns.
+            all_named self.old.keys ns.items ≡ Some (recent_keys most self.old.cache.kept)) }
+        ensures steps { OnOk result (self.new.steps
+            ≡ and_then self.old.steps seat (Listed most (recent_keys most self.old.cache.kept))) }
+        ensures no_memory { OnErr result (self.new ≡ self.old) }
+    {
+        let numbers = newest(alloc, &self.cells, most)?;
+        let keys = newest(alloc, &self.cells, most)?;
+        // For this call, and for the end of each key that seats own.
+        self.trace.reserve(self.cells.seats() as usize + 1)?;
+        self.trace.push(seat, Done::Listed { most, keys });
+        Ok(numbers)
+    }
+
     /// How many values are kept. It takes no memory.
     pub fn len(&self) -> u32
         ensures { result ≡ length self.now.cache.kept.entries }
@@ -243,4 +272,22 @@ fn owned<V: Counted>(cells: &Cells<u32, V>, seat: u32) -> u32
         Some(key) => *key,
         None => unreachable!(),
     }
+}
+
+// The numbers of the most recently used entries, at most so many.
+fn newest<V: Counted>(
+    alloc: Global,
+    cells: &Cells<u32, V>,
+    most: u32,
+) -> Result<Vec<u32>, AllocError>
+    ensures { IfOk result (λ ns. ns.items ≡ recent_keys most cells.now.kept) }
+{
+    let mut numbers = Vec::new(alloc);
+    for (number, _value) in cells.iter() {
+        if numbers.len() == most as usize {
+            break;
+        }
+        numbers.push(*number)?;
+    }
+    Ok(numbers)
 }

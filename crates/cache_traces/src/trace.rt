@@ -1,4 +1,4 @@
-ghost use Rattle.std.specs.Prelude.{◌≡◌, ◌+◌, ◌≤◌, IfOk, OnOk, OnErr, IfSome, Some, IsSome, [], slice_get};
+ghost use Rattle.std.specs.Prelude.{◌≡◌, ◌+◌, ◌<◌, ◌≤◌, length, IfOk, OnOk, OnErr, IfSome, Some, IsSome, [], slice_get};
 ghost use Rattle.std.specs.List.{IsDistinct};
 ghost use Rattle.cache_traces.specs.declared.act.Act.{Act};
 ghost use Rattle.cache_traces.specs.Named.{named};
@@ -53,6 +53,17 @@ impl<K: Eq + Hash + Drop, N: Drop> Trace<K, N> {
     {
         let (at, _key) = self.keys.get_full(key)?;
         Some(at as u32)
+    }
+
+    /// The key of a number. It takes no memory.
+    pub fn key(&self, number: u32) -> &K
+        requires { number < length self.now.keys }
+        ensures { slice_get self.now.keys number ≡ Some result.now }
+    {
+        match self.keys.get_index(number as usize) {
+            Some(key) => key,
+            None => unreachable!(),
+        }
     }
 
     /// The number of a key, which is new where it was not used yet. It costs the key's hash, and a comparison where it is
