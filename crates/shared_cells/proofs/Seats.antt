@@ -1,24 +1,25 @@
 -- Lists of seats' calls.
-use Rattle.std.proofs.Common.{◌≡◌, ◌≢◌, ℕ, ◌<◌, ◌==◌, ◌++◌, Bool, true, false, cond, List, [], ◌∷◌, length, Option, Some, None, refl, sym, ap, subst, ◌∙◌, rules, if◌then◌else◌, ◌&&◌}
-use Rattle.std.specs.Prelude.{Result, Ok, Err, IfOk, OnOk, OnErr}
+use Rattle.std.proofs.Common.{◌≡◌, ◌≢◌, ℕ, ◌<◌, ◌==◌, ◌++◌, Bool, true, false, cond, List, [], ◌∷◌, length, Option, Some, None, refl, true≢false, sym, ap, subst, ◌∙◌, rules, if◌then◌else◌, ◌&&◌}
+use Rattle.std.specs.Prelude.{Result, Ok, Err, IfOk, OnOk, OnErr, IsSome}
 use Rattle.std.proofs.lemmas.List.{append-nil}
-use Rattle.cache_machine.specs.Machine.{owned_by, look_answer, after_look}
+use Rattle.cache_machine.specs.Machine.{owned_by, look_answer, after_look, finished as after_finish, released}
 use Rattle.cache_traces.specs.declared.act.Act.{Act}
 use Rattle.cache_traces.specs.declared.act.Act.TheVariants.{Looked as Looks}
 use Rattle.cache_traces.specs.declared.act.Step.{Step}
 use Rattle.cache_traces.specs.declared.told.Told.{Told}
-use Rattle.cache_traces.specs.Acts.{calls_of, owned_after}
+use Rattle.cache_traces.specs.Acts.{calls_of, owned_from, owned_after}
+use Rattle.cache_traces.specs.declared.told.Told.TheVariants.{Joined}
 use Rattle.cache_traces.specs.declared.cells.Looked.{Looked}
 use Rattle.cache_traces.specs.declared.cells.Looked.TheVariants as looked
 use Rattle.cache_traces.specs.Looking.{answer_of, told_of, is_joined, with_look}
 use Rattle.cache_traces.specs.Traced.{AreSame, and_then}
 use Rattle.cache_traces.specs.TracedCache.{TracedCache, IsTraced}
 use Rattle.cache_traces.specs.Traces.{Rules}
-use Rattle.cache_traces.proofs.Owners.{owns, calls_of-own, calls_of-other}
+use Rattle.cache_traces.proofs.Owners.{owns, calls_of-own, calls_of-other, owned_from-then}
 use Rattle.shared_cells.specs.Fitting.{CellFits}
-use Rattle.shared_cells.specs.Lists.{look_told}
+use Rattle.shared_cells.specs.Lists.{look_told, AskedBefore, AsksFor}
 use Rattle.shared_cells.specs.Seated.{HitFits}
-use Rattle.shared_cells.proofs.Entries.{pair_fits, same_fits, look_fits, hit_fits}
+use Rattle.shared_cells.proofs.Entries.{pair_fits, same_fits, look_fits, hit_fits, released_fits, finish_fits}
 
 itself : (n : ℕ) → (n == n) ≡ true
 itself n = search rules
@@ -83,3 +84,40 @@ module _ {K V N E : Type 0} where
   hit_looked r same fit size greatest seats t h k need (Ok (looked.Join owner)) ok = tt
   hit_looked r same fit size greatest seats t h k need (Ok looked.Own) ok = tt
   hit_looked r same fit size greatest seats t h k need (Err e) ok = tt
+
+-- ---- the end of a key
+
+module _ {K V N E : Type 0} where
+  pub fits_ended : (r : Rules K V N) (fit : K → V → Type 0) (size : ℕ) (greatest : Option ℕ) (seats : ℕ) (t u : TracedCache K V N) → CellFits r fit size greatest seats t → IsTraced r u
+      → (seat : ℕ) (v : V) (keep : Bool) → ((k : K) → owned_by t.cache seat ≡ Some k → fit k v) → {T : Type 0} (result : Result T E)
+      → OnOk result (u.cache ≡ after_finish r.eq r.weight seat v keep t.cache) → OnErr result (u.cache ≡ released seat t.cache) → CellFits r fit size greatest seats u
+  fits_ended r fit size greatest seats t u h traced seat v keep new (Ok x) ok err = finish_fits r fit size greatest seats t u h traced seat v keep ok new
+  fits_ended r fit size greatest seats t u h traced seat v keep new (Err e) ok err = released_fits r fit size greatest seats t u h traced seat err
+
+-- something is there
+pub some_there : {A : Type 0} (o : Option A) → IsSome o → (x : A) × (o ≡ Some x)
+some_there None h = absurd (true≢false (sym h))
+some_there (Some x) h = (x, refl)
+
+-- ---- looks in turn
+
+module _ {K N : Type 0} (k : K) (need : ℕ) where
+  told_once : (again : Bool) (t : Told) → is_joined t ≡ false → look_told {N = N} k need again t ≡ Looks k need again t ∷ []
+  told_once true t h = ap (λ b. if b then [] else Looks k need true t ∷ []) h
+  told_once false t h = refl
+
+  -- the look that ends it
+  pub asks_for : (again : Bool) (t : Told) (old mid new acts : List (Act K N)) → is_joined t ≡ false → AskedBefore k need again acts → mid ≡ old ++ acts → new ≡ mid ++ look_told k need again t → AsksFor k need again t old new
+  asks_for again t old mid new acts h before is now = (acts, before, now ∙ (λ i. is i ++ told_once again t h i))
+
+  -- one that was answered Join
+  pub asked_on : (again : Bool) (owner : ℕ) (old mid new acts : List (Act K N)) → AskedBefore k need again acts → mid ≡ old ++ acts → new ≡ mid ++ look_told k need again (Joined owner) → (more : List (Act K N)) × AskedBefore k need true more × (new ≡ old ++ more)
+  asked_on true owner old mid new acts before is now = (acts, before, now ∙ append-nil mid ∙ is)
+  asked_on false owner old mid new acts before is now =
+      let none : mid ≡ old = is ∙ ap (λ l. old ++ l) before ∙ append-nil old in
+      (Looks k need false (Joined owner) ∷ [], (owner, refl), now ∙ ap (λ l. l ++ Looks k need false (Joined owner) ∷ []) none)
+
+  -- the seat owns nothing between them
+  pub owns_none : (again : Bool) (old mid acts : List (Act K N)) → AskedBefore k need again acts → mid ≡ old ++ acts → owned_after old ≡ None → owned_after mid ≡ None
+  owns_none false old mid acts before is none = ap owned_after (is ∙ ap (λ l. old ++ l) before ∙ append-nil old) ∙ none
+  owns_none true old mid acts before is none = ap owned_after (is ∙ ap (λ l. old ++ l) before.1) ∙ owned_from-then None old (Looks k need false (Joined before.0)) ∙ none

@@ -1,7 +1,9 @@
-ghost use Rattle.std.specs.Prelude.{◌≡◌, ◌<◌, IfOk, OnOk, OnErr, None, Some, length, slice_get};
-ghost use Rattle.cache_machine.specs.Machine.{owned_by, look_answer, after_look};
+ghost use Rattle.std.specs.Prelude.{◌≡◌, ◌<◌, IfOk, OnOk, OnErr, IsSome, None, Some, length, slice_get};
+ghost use Rattle.cache_machine.specs.Machine.{owned_by, look_answer, after_look, finished as after_finish, released};
 ghost use Rattle.cache_traces.specs.Looking.{answer_of, told_of, with_look};
-ghost use Rattle.cache_traces.specs.Traced.{AreSame};
+ghost use Rattle.cache_traces.specs.Traced.{AreSame, and_then};
+ghost use Rattle.cache_traces.specs.declared.act.Act.TheVariants.{Finished, GaveUp};
+ghost use Rattle.std.specs.Result.{is_ok};
 ghost use Rattle.cache_traces.specs.TracedCache.{IsTraced};
 ghost use Rattle.cache_traces.specs.Traces.{rules};
 
@@ -100,4 +102,39 @@ fn number_of<V: Kept>(
     }
     let copy = V::copy(alloc, key)?;
     cells.number(copy)
+}
+
+// Ends the key of a seat that owns one, and stores its value.
+pub(crate) fn ended<V: Kept>(
+    cell: &mut Cell<V>,
+    seat: u32,
+    value: V,
+    most: u32,
+) -> Result<(), AllocError>
+    requires same { AreSame V.Key V.Key.eq }
+    requires owns { IsSome (owned_by cell.old.cells.cache seat) }
+    ensures after { OnOk result (cell.new.cells.cache ≡ after_finish V.Key.eq V.weight seat value
+        (V.keeps (V.numbers most value)) cell.old.cells.cache) }
+    ensures no_memory { OnErr result (cell.new.cells.cache ≡ released seat cell.old.cells.cache) }
+    ensures steps { (k : V.Key) → owned_by cell.old.cells.cache seat ≡ Some k → cell.new.cells.steps
+        ≡ and_then cell.old.cells.steps seat (Finished k (V.numbers most value) (is_ok result)) }
+    ensures traced { IsTraced (rules V.Key.eq V.weight V.serves V.numbers V.keeps) cell.new.cells }
+{
+    let cells = &mut cell.cells;
+    let result = cells.finish(seat, value, most);
+    let _seats = cells.seats();
+    result
+}
+
+// Ends the key of a seat that owns one, of which nothing is stored.
+pub(crate) fn given_up<V: Kept>(cell: &mut Cell<V>, seat: u32)
+    requires owns { IsSome (owned_by cell.old.cells.cache seat) }
+    ensures after { cell.new.cells.cache ≡ released seat cell.old.cells.cache }
+    ensures steps { (k : V.Key) → owned_by cell.old.cells.cache seat ≡ Some k
+        → cell.new.cells.steps ≡ and_then cell.old.cells.steps seat (GaveUp k) }
+    ensures traced { IsTraced (rules V.Key.eq V.weight V.serves V.numbers V.keeps) cell.new.cells }
+{
+    let cells = &mut cell.cells;
+    cells.give_up(seat);
+    let _seats = cells.seats();
 }

@@ -6,5 +6,6 @@ mod calls;
 mod cell;
 mod kept;
 
+pub use calls::{Found, finish, give_up, look_up};
 pub use cell::Cell;
 pub use kept::Kept;
