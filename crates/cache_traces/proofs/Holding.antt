@@ -85,18 +85,18 @@ module _ {K V : Type 0} (eq : K → K → Bool) where
   module _ (weight : V → ℕ) (seat : ℕ) (v : V) (c : Cache K V) where
     sized_stored : (k : K) → IsSized c (record (released seat c) { kept = stored eq weight k v c.kept })
     sized_stored k = elim (is_light weight c.kept.greatest v) as (λ b. IsSized c (record (released seat c) { kept = cond b (with_entries c.kept (cut weight c.kept.size c.kept.greatest ((k, v) ∷ remove_entry (eq k) c.kept.entries))) c.kept })) [
-        | true ↦ record { size = refl; greatest = refl; seats = length-set c.pending seat None }
-        | false ↦ record { size = refl; greatest = refl; seats = length-set c.pending seat None }
-      ]
+      | true ↦ record { size = refl; greatest = refl; seats = length-set c.pending seat None }
+      | false ↦ record { size = refl; greatest = refl; seats = length-set c.pending seat None }
+    ]
 
     pub sized_finished : (keep : Bool) → IsSized c (after_finish eq weight seat v keep c)
     sized_finished keep = elim (owned_by c seat) as (λ o. IsSized c (option_map_or (λ k. cond keep (record (released seat c) { kept = stored eq weight k v c.kept }) (released seat c)) o (released seat c))) [
-        | None ↦ sized_released seat c
-        | Some k ↦ (elim keep as (λ b. IsSized c (cond b (record (released seat c) { kept = stored eq weight k v c.kept }) (released seat c))) [
-          | true ↦ sized_stored k
-          | false ↦ sized_released seat c
-        ])
-      ]
+      | None ↦ sized_released seat c
+      | Some k ↦ (elim keep as (λ b. IsSized c (cond b (record (released seat c) { kept = stored eq weight k v c.kept }) (released seat c))) [
+        | true ↦ sized_stored k
+        | false ↦ sized_released seat c
+      ])
+    ]
 
 -- ---- calls
 

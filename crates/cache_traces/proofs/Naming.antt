@@ -122,9 +122,9 @@ nothing_more (k ∷ ks) = ap (λ l. k ∷ l) (nothing_more ks)
 -- the keys with one inserted go on from those before
 pub grows-insert : {K : Type 0} (eq : K → K → Bool) (ks : List K) (k : K) → Grows ks (insert_key eq ks k)
 grows-insert eq ks k = elim (list_any (eq k) ks) as (λ b. Grows ks (if b then ks else ks ++ k ∷ [])) [
-    | true ↦ ([], nothing_more ks)
-    | false ↦ (k ∷ [], refl)
-  ]
+  | true ↦ ([], nothing_more ks)
+  | false ↦ (k ∷ [], refl)
+]
 
 pub grows-same : {K : Type 0} (ks ls : List K) → ls ≡ ks → Grows ks ls
 grows-same ks ls is = ([], is ∙ nothing_more ks)

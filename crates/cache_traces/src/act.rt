@@ -12,11 +12,20 @@ pub enum Act<K, N> {
         told: Told,
     },
     /// The end of an owned key: the numbers of its value, and whether there was memory.
-    Finished { key: K, numbers: N, stored: bool },
+    Finished {
+        key: K,
+        numbers: N,
+        stored: bool,
+    },
     /// The end of an owned key without a value.
-    GaveUp { key: K },
+    GaveUp {
+        key: K,
+    },
     /// The most recently used keys: how many were asked for, and the keys.
-    Listed { most: u32, keys: LinkedList<K> },
+    Listed {
+        most: u32,
+        keys: LinkedList<K>,
+    },
 }
 
 /// A call of the seat of this number, as contracts see it. No value of it is made.

@@ -47,18 +47,18 @@ returns-clause-after g c =
     let next = c.finish-result.new.self in
     let keep_is : c.keeps-keep.result ≡ keep = c.keeps-keep.ensures ∙ ap g.V.Counted.keeps c.numbers-numbers.ensures in
     on_ok c.finish-result.result (λ e.
-        (λ i. named_cache (c.push.ensures.keys i) (e i))
-        ∙ ap (λ b. named_cache inside.trace.keys (after_finish nat_eq g.V.Value.weight c.args.seat c.args.value b inside.cells)) keep_is
-        ∙ sym (same_finished g.met.K.Eq.laws inside.trace.keys c.self.invariant.distinct g.V.Value.weight c.args.seat c.args.value keep inside.cells c.self.invariant.in_keys)
-        ∙ ap (λ v. after_finish g.K.PartialEq.eq g.V.Value.weight c.args.seat c.args.value keep v.cache) c.self.view_is)
+    (λ i. named_cache (c.push.ensures.keys i) (e i))
+    ∙ ap (λ b. named_cache inside.trace.keys (after_finish nat_eq g.V.Value.weight c.args.seat c.args.value b inside.cells)) keep_is
+    ∙ sym (same_finished g.met.K.Eq.laws inside.trace.keys c.self.invariant.distinct g.V.Value.weight c.args.seat c.args.value keep inside.cells c.self.invariant.in_keys)
+    ∙ ap (λ v. after_finish g.K.PartialEq.eq g.V.Value.weight c.args.seat c.args.value keep v.cache) c.self.view_is)
     c.finish-result.ensures.after
 
 pub returns-clause-no_memory : goal.returns-clause-no_memory
 returns-clause-no_memory g c =
     let inside = c.self.inside in
     on_err c.finish-result.result (λ e.
-        (λ i. named_cache (c.push.ensures.keys i) (e i))
-        ∙ sym (same_released g.met.K.Eq.laws inside.trace.keys c.self.invariant.distinct c.args.seat inside.cells) ∙ ap (λ v. released c.args.seat v.cache) c.self.view_is)
+    (λ i. named_cache (c.push.ensures.keys i) (e i))
+    ∙ sym (same_released g.met.K.Eq.laws inside.trace.keys c.self.invariant.distinct c.args.seat inside.cells) ∙ ap (λ v. released c.args.seat v.cache) c.self.view_is)
     c.finish-result.ensures.no_memory
 
 pub returns-clause-steps : goal.returns-clause-steps

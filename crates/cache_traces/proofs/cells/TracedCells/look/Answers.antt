@@ -30,7 +30,7 @@ invariant_of-self-2 g c =
     let idle : owned_by (named_cache keys inside.cells) c.args.seat ≡ None = ap (λ v. owned_by v.cache c.args.seat) c.self.view_is ∙ c.requires.idle in
     let answer = c.in_ok-look.ensures.answer in
     let steps = c.note.ensures.steps one.0 (ap (λ ks. slice_get ks c.args.key) c.reserve.ensures.keys ∙ one.1)
-        ∙ (λ i. with_look (c.reserve.ensures.steps i) c.args.seat one.0 c.args.need c.args.again ((c.told.ensures ∙ ap told answer) i)) in
+    ∙ (λ i. with_look (c.reserve.ensures.steps i) c.args.seat one.0 c.args.need c.args.again ((c.told.ensures ∙ ap told answer) i)) in
     moved r keys c.note.new.trace.keys (with_look inside.trace.steps c.args.seat one.0 c.args.need c.args.again (told (look_answer nat_eq (g.V.Value.serves c.args.need) c.args.key inside.cells))) c.note.new.trace.steps c.note.new.trace.room c.note.new.trace.room
     (after_look nat_eq (g.V.Value.serves c.args.need) c.args.key c.args.seat inside.cells) c.look.new.self
     (looked_holds r keys g.met.K.Eq.laws inside.trace.steps inside.trace.room c.note.new.trace.room inside.cells c.args.seat c.self.invariant in_seats c.args.key one.0 c.args.need c.args.again one.1 idle few)

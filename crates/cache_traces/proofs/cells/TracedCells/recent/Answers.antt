@@ -25,7 +25,7 @@ invariant_of-self-2 g c =
     let few : length inside.cells.pending ≤ c.push.new.self.room = search rules in
     let names = ap (all_named keys) c.in_ok-keys.ensures ∙ names_recent keys c.args.most inside.cells c.self.invariant.in_keys in
     let steps = c.push.ensures.step (Listed c.args.most recent) (ap (λ ks. option_map (Listed c.args.most) (all_named ks c.in_ok-keys.keys.items)) c.reserve.ensures.keys ∙ ap (option_map (Listed c.args.most)) names)
-        ∙ ap (λ ss. and_then ss c.args.seat (Listed c.args.most recent)) c.reserve.ensures.steps in
+    ∙ ap (λ ss. and_then ss c.args.seat (Listed c.args.most recent)) c.reserve.ensures.steps in
     moved r keys c.push.new.self.keys (and_then inside.trace.steps c.args.seat (Listed c.args.most recent)) c.push.new.self.steps c.push.new.self.room c.push.new.self.room inside.cells inside.cells
     (listed_holds r keys inside.trace.steps inside.trace.room c.push.new.self.room inside.cells c.args.seat c.self.invariant in_seats c.args.most few)
     (c.push.ensures.keys ∙ c.reserve.ensures.keys) steps refl refl

@@ -1,0 +1,13 @@
+//! The shared caches of a searcher: what each keeps, when it fits the searcher's view, and filters that are looked up in
+//! theirs, or evaluated while others wait for them.
+#![tactic(auto)]
+
+mod cell_view;
+mod filter_set;
+mod filters;
+mod result_entry;
+
+pub use cell_view::CellView;
+pub use filter_set::FilterSet;
+pub use filters::filter_set;
+pub use result_entry::{ResultEntry, ResultNumbers};
