@@ -1,5 +1,5 @@
 -- What each call leaves of a cache with its trace.
-use Rattle.std.proofs.Common.{◌≡◌, ℕ, zero, suc, ◌+◌, ◌<◌, ◌≤◌, Bool, true, false, List, [], ◌∷◌, ◌++◌, cond, map, length, length-set, Option, Some, None, refl, true≢false, sym, ap, subst, ◌∙◌, rules, arith, if◌then◌else◌, slice_get}
+use Rattle.std.proofs.Common.{◌≡◌, ℕ, zero, suc, ◌+◌, ◌<◌, ◌≤◌, Bool, true, false, List, [], ◌∷◌, ◌++◌, cond, map, length, length-set, Option, Some, None, refl, sym, ap, subst, ◌∙◌, arith, slice_get}
 use Rattle.std.specs.Prelude.{Result, Ok, Err, OnOk, OnErr, IsSome, is_some, option_map, option_and_then, take, slice_set, replicate, nat_eq}
 use Rattle.std.specs.Option.{option_map_or}
 use Rattle.std.specs.List.{AllByRecursion, IsDistinct, cons_option}
@@ -9,7 +9,7 @@ use Rattle.std.specs.Map.{keys_of, remove_entry}
 use Rattle.std.proofs.lemmas.Option.{none-some}
 use Rattle.cache_machine.specs.declared.look.Look.{Look}
 use Rattle.cache_machine.specs.declared.look.Look.TheVariants.{Hit, Join, Own}
-use Rattle.cache_machine.specs.Machine.{Kept, Cache, empty_cache, with_entries, owned_by, stored, cut, is_light, look_answer, after_answer, after_look, released, finished as after_finish, recent_keys}
+use Rattle.cache_machine.specs.Machine.{Cache, empty_cache, with_entries, owned_by, stored, cut, is_light, look_answer, after_answer, after_look, released, finished as after_finish, recent_keys}
 use Rattle.cache_traces.specs.declared.act.Act.{Act}
 use Rattle.cache_traces.specs.declared.act.Step.{Step}
 use Rattle.cache_traces.specs.declared.act.Act.TheVariants.{Looked, Finished, GaveUp, Listed}
@@ -17,8 +17,8 @@ use Rattle.cache_traces.specs.Looking.{renamed, keyless, answer_of, told_of, wit
 use Rattle.cache_traces.specs.Named.{all_named}
 use Rattle.cache_traces.specs.NamedCache.{IsIn, AllIn, OwnsIn, named_owner, named_entries, named_cache, AreIn}
 use Rattle.cache_traces.specs.Traced.{and_then}
-use Rattle.cache_traces.specs.TracedCache.{TracedCache, IsTraced, owner_count, Holds}
-use Rattle.cache_traces.specs.Traces.{Rules, told, after_end, HasNumbers, Follows, LeadsTo, begun, gone_on}
+use Rattle.cache_traces.specs.TracedCache.{IsTraced, owner_count, Holds}
+use Rattle.cache_traces.specs.Traces.{Rules, told, Follows, LeadsTo, begun, gone_on}
 use Rattle.cache_traces.proofs.Owners.{pending-finish}
 use Rattle.cache_traces.proofs.Renaming.{same_answer, same_after, in_look, same_released, in_released, same_owned, same_finished, in_finished, cache_grown, in_grown, owned_at}
 

@@ -3,3 +3,4 @@ pub mod Naming
 pub mod Owners
 pub mod Renaming
 pub mod Runs
+pub mod Storing

@@ -1,7 +1,7 @@
 -- Records keep their names when keys are added behind the others.
-use Rattle.std.proofs.Common.{◌≡◌, ℕ, zero, suc, Bool, true, false, List, [], ◌∷◌, ◌++◌, cond, filter, Option, Some, None, IsSome, refl, true≢false, sym, ap, subst, ◌∙◌, rules, if◌then◌else◌, arith, slice_get, position}
+use Rattle.std.proofs.Common.{◌≡◌, ℕ, zero, suc, Bool, true, false, List, [], ◌∷◌, ◌++◌, Option, Some, None, IsSome, refl, true≢false, sym, ap, subst, ◌∙◌, if◌then◌else◌, slice_get}
 use Rattle.std.specs.Prelude.{option_map, option_and_then, unwrap_or}
-use Rattle.std.specs.List.{filter_map, cons_option, find, AllByRecursion, list_any}
+use Rattle.std.specs.List.{cons_option, find, list_any}
 use Rattle.std.proofs.lemmas.List.Elements.{filter_map-append}
 use Rattle.std.proofs.lemmas.Option.{none-some}
 use Rattle.cache_traces.specs.declared.told.Told.{Told}

@@ -1,17 +1,16 @@
 -- The key that a seat owns is told by its own calls.
 use Rattle.std.proofs.Common.{◌≡◌, ◌≢◌, ℕ, zero, suc, ◌<◌, ◌==◌, Bool, true, false, List, [], ◌∷◌, ◌++◌, length, cond, Option, Some, None, refl, sym, ap, subst, ◌∙◌, arith, rules, true≢false, if◌then◌else◌}
-use Rattle.std.specs.Prelude.{slice_get, slice_set, replicate, nat_eq}
+use Rattle.std.specs.Prelude.{slice_get, slice_set, replicate}
 use Rattle.std.specs.Option.{option_and_then, option_map_or}
 use Rattle.cache_machine.specs.declared.look.Look.{Look}
 use Rattle.cache_machine.specs.declared.look.Look.TheVariants as look
-use Rattle.cache_machine.specs.Machine.{Cache, empty_cache, owned_by, look_answer, after_answer, after_look, finished as after_finish, released, stored as stored_in}
+use Rattle.cache_machine.specs.Machine.{Cache, owned_by, look_answer, after_answer, finished as after_finish, released, stored as stored_in}
 use Rattle.cache_traces.specs.declared.told.Told.{Told}
-use Rattle.cache_traces.specs.declared.told.Told.TheVariants.{Hit, Joined, Owned}
 use Rattle.cache_traces.specs.declared.act.Act.{Act}
 use Rattle.cache_traces.specs.declared.act.Step.{Step}
 use Rattle.cache_traces.specs.declared.act.Act.TheVariants.{Looked, Finished, GaveUp, Listed}
 use Rattle.cache_traces.specs.Acts.{calls_of, owned_then, owned_from, owned_after}
-use Rattle.cache_traces.specs.Traces.{Rules, told, after_end, Follows, LeadsTo, begun, gone_on, IsTrace}
+use Rattle.cache_traces.specs.Traces.{Rules, told, after_end, Follows, begun, gone_on, IsTrace}
 
 -- ---- lists of owned keys
 

@@ -1,16 +1,16 @@
 -- The machine does with numbers what it does with the keys that they stand for.
-use Rattle.std.proofs.Common.{◌≡◌, ℕ, zero, suc, ◌+◌, ◌-◌, Bool, true, false, List, [], ◌∷◌, ◌++◌, cond, map, Option, Some, None, refl, true≢false, sym, ap, subst, ◌∙◌, rules, if◌then◌else◌, slice_get}
+use Rattle.std.proofs.Common.{◌≡◌, ℕ, zero, suc, ◌+◌, ◌-◌, Bool, true, false, List, [], ◌∷◌, ◌++◌, cond, map, Option, Some, None, refl, sym, ap, subst, ◌∙◌, rules, if◌then◌else◌, slice_get}
 use Rattle.std.specs.Prelude.{option_map, option_and_then, unwrap_or, slice_set, take, nat_eq, nat_le}
 use Rattle.std.specs.Option.{option_map_or}
-use Rattle.std.specs.List.{filter_map, cons_option, AllByRecursion, IsDistinct, position_from}
+use Rattle.std.specs.List.{cons_option, AllByRecursion, IsDistinct, position_from}
 use Rattle.std.specs.Cmp.{IsEquivalence}
-use Rattle.std.specs.Map.{lookup, lookup_entry, remove_entry, keys_of}
+use Rattle.std.specs.Map.{lookup, lookup_entry, remove_entry}
 use Rattle.std.proofs.lemmas.Option.{none-some}
 use Rattle.cache_machine.specs.declared.look.Look.{Look}
 use Rattle.cache_machine.specs.declared.look.Look.TheVariants.{Hit, Join, Own}
 use Rattle.cache_machine.specs.Machine.{Kept, Cache, with_entries, owned_by, owner_of, brought_first, served, stored, cut, light_front, is_light, answer_by, look_answer, after_answer, after_look, released, finished}
 use Rattle.cache_traces.specs.Looking.{renamed}
-use Rattle.cache_traces.specs.NamedCache.{IsIn, OwnsIn, named_owner, named_entry, named_entries, named_kept, named_cache, AllIn, AreIn}
+use Rattle.cache_traces.specs.NamedCache.{IsIn, OwnsIn, named_owner, named_entries, named_kept, named_cache, AllIn, AreIn}
 
 some_is : {A : Type 0} {x y : A} → Some x ≡ Some y → x ≡ y
 some_is {A} {x} h = ap (λ o. unwrap_or o x) h

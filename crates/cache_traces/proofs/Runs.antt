@@ -1,12 +1,11 @@
 -- A trace is a run of the machine.
-use Rattle.std.proofs.Common.{◌≡◌, ℕ, ◌<◌, Bool, true, false, List, [], ◌∷◌, ◌++◌, Option, refl, sym, ap, subst, ◌∙◌, if◌then◌else◌}
-use Rattle.cache_machine.specs.declared.look.Look.{Look}
-use Rattle.cache_machine.specs.Machine.{Cache, empty_cache, look_answer}
+use Rattle.std.proofs.Common.{ℕ, Bool, true, false, List, [], ◌∷◌, ◌++◌, refl, sym, subst}
+use Rattle.cache_machine.specs.Machine.{Cache, look_answer}
 use Rattle.cache_machine.specs.Runs.{Call, Answer, look, finish, give_up, recent, looked as answered, done, keys, no_memory, Allows, IsRun}
 use Rattle.cache_traces.specs.declared.act.Act.{Act}
 use Rattle.cache_traces.specs.declared.act.Step.{Step}
 use Rattle.cache_traces.specs.declared.act.Act.TheVariants.{Looked, Finished, GaveUp, Listed}
-use Rattle.cache_traces.specs.Traces.{Rules, told, after_end, Follows, LeadsTo, begun, gone_on, IsTrace}
+use Rattle.cache_traces.specs.Traces.{Rules, Follows, LeadsTo, begun, gone_on}
 use Rattle.cache_traces.specs.Laws.{IsToldOf, AreToldOf}
 
 module _ {K V N : Type 0} (r : Rules K V N) where

@@ -3,6 +3,9 @@ pub mod Laws
 pub mod Looking
 pub mod Named
 pub mod NamedCache
+pub mod StoreLaws
+pub mod StoreTraces
 pub mod Traced
 pub mod TracedCache
+pub mod TracedStore
 pub mod Traces

@@ -6,7 +6,6 @@ use Rattle.cache_traces.specs.declared.told.Told.{Told}
 use Rattle.cache_traces.specs.declared.told.Told.TheVariants.{Hit, Joined, Owned}
 use Rattle.cache_traces.specs.declared.cells.Looked.{Looked}
 use Rattle.cache_traces.specs.declared.cells.Looked.TheVariants as looked
-use Rattle.cache_traces.specs.declared.act.Act.{Act}
 use Rattle.cache_traces.specs.declared.act.Step.{Step}
 use Rattle.cache_traces.specs.declared.act.Act.TheVariants.{Looked as looks}
 use Rattle.cache_traces.specs.Traced.{and_then}

@@ -1,5 +1,5 @@
 -- Records with their keys in place of the keys' numbers.
-use Rattle.std.specs.Prelude.{ℕ, ◌∷◌, [], List, Option, Some, None, IsSome, option_map, option_and_then, slice_get}
+use Rattle.std.specs.Prelude.{ℕ, ◌∷◌, [], List, Option, Some, IsSome, option_map, option_and_then, slice_get}
 use Rattle.std.specs.List.{filter_map, AllByRecursion}
 use Rattle.cache_traces.specs.declared.record.Done.{Done}
 use Rattle.cache_traces.specs.declared.record.Done.TheVariants as done

@@ -1,8 +1,6 @@
 -- A cache over the numbers of keys, seen with the keys in their place.
-use Rattle.std.specs.Prelude.{◌≡◌, ℕ, List, ◌∷◌, [], map, Option, Some, None, slice_get, option_map, option_and_then}
+use Rattle.std.specs.Prelude.{◌≡◌, ℕ, List, map, Option, Some, None, slice_get, option_map, option_and_then}
 use Rattle.std.specs.List.{filter_map, AllByRecursion}
-use Rattle.cache_machine.specs.declared.look.Look.{Look}
-use Rattle.cache_machine.specs.declared.look.Look.TheVariants.{Hit, Join, Own}
 use Rattle.cache_machine.specs.Machine.{Kept, Cache}
 
 module _ {K : Type 0} (keys : List K) where

@@ -8,6 +8,8 @@ mod cells;
 mod counted;
 pub mod laws;
 mod record;
+mod store;
+mod store_act;
 mod told;
 mod trace;
 
@@ -15,5 +17,7 @@ pub use act::{Act, Step};
 pub use cells::{Looked, TracedCells};
 pub use counted::Counted;
 pub use record::{Done, Record};
+pub use store::TracedStore;
+pub use store_act::{StoreAct, StoreStep};
 pub use told::Told;
 pub use trace::Trace;

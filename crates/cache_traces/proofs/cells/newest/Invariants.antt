@@ -1,4 +1,4 @@
-use Rattle.std.proofs.Common.{◌≡◌, ◌≤◌, ◌++◌, length, vec_len}
+use Rattle.std.proofs.Common.{◌≡◌, ◌≤◌, ◌++◌, vec_len}
 use Rattle.std.specs.Map.{keys_of}
 use Rattle.cache_traces.proofs.cells.newest.Given as goal
 

@@ -1,8 +1,7 @@
-use Rattle.std.proofs.Common.{rules, ◌≡◌, ℕ, ◌+◌, ◌≤◌, List, Some, Option, sym, ap, subst, ◌∙◌, length, slice_get, refl, arith}
-use Rattle.std.specs.Prelude.{nat_eq, option_map, OnOk, OnErr, Result, Ok, Err, Bool}
+use Rattle.std.proofs.Common.{◌≡◌, Some, sym, ap, subst, ◌∙◌, slice_get, refl}
+use Rattle.std.specs.Prelude.{nat_eq, option_map, OnOk}
 use Rattle.cache_machine.specs.Machine.{released, owned_by, finished as after_finish}
 use Rattle.std.specs.Result.{is_ok}
-use Rattle.cache_traces.specs.declared.act.Act.{Act}
 use Rattle.cache_traces.specs.declared.act.Act.TheVariants.{Finished}
 use Rattle.cache_traces.specs.NamedCache.{named_cache}
 use Rattle.cache_traces.specs.Traced.{and_then}

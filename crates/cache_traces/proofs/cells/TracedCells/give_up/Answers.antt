@@ -1,4 +1,4 @@
-use Rattle.std.proofs.Common.{rules, ◌≡◌, ℕ, ◌+◌, ◌≤◌, List, Some, Option, sym, ap, subst, ◌∙◌, length, slice_get, refl, arith}
+use Rattle.std.proofs.Common.{◌≡◌, Some, sym, ap, ◌∙◌, slice_get, refl}
 use Rattle.std.specs.Prelude.{option_map}
 use Rattle.cache_machine.specs.Machine.{released, owned_by}
 use Rattle.cache_traces.specs.declared.act.Act.TheVariants.{GaveUp}

@@ -1,4 +1,4 @@
-use Rattle.std.proofs.Common.{rules, ◌≡◌, ℕ, ◌+◌, ◌≤◌, List, Some, Option, sym, ap, subst, ◌∙◌, length, slice_get, refl, arith}
+use Rattle.std.proofs.Common.{sym, ap, ◌∙◌, length}
 use Rattle.cache_traces.proofs.Holding.{count_named}
 use Rattle.cache_traces.proofs.cells.TracedCells.len.Goals as goal
 

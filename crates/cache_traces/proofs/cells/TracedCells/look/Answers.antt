@@ -1,4 +1,4 @@
-use Rattle.std.proofs.Common.{rules, ◌≡◌, ℕ, ◌+◌, ◌≤◌, ◌<◌, List, Some, None, Option, sym, ap, subst, ◌∙◌, length, slice_get, refl, arith}
+use Rattle.std.proofs.Common.{rules, ◌≡◌, ◌≤◌, ◌<◌, Some, None, sym, ap, subst, ◌∙◌, length, slice_get, refl}
 use Rattle.std.specs.Prelude.{nat_eq}
 use Rattle.cache_machine.specs.Machine.{look_answer, after_look, owned_by}
 use Rattle.cache_traces.specs.Looking.{answer_of, renamed, with_look}

@@ -1,4 +1,4 @@
-use Rattle.std.proofs.Common.{rules, ◌≡◌, [], ℕ, ◌+◌, ◌≤◌, List, Some, Option, sym, ap, subst, ◌∙◌, length, slice_get, refl, arith}
+use Rattle.std.proofs.Common.{[], refl}
 use Rattle.cache_traces.specs.Traces.{rules as of}
 use Rattle.cache_traces.proofs.Holding.{begins, named_empty, moved}
 use Rattle.cache_traces.proofs.cells.TracedCells.new.Goals as goal

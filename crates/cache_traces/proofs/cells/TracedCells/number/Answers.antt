@@ -1,4 +1,4 @@
-use Rattle.std.proofs.Common.{rules, ◌≡◌, ◌++◌, ℕ, ◌+◌, ◌≤◌, List, Some, Option, sym, ap, subst, ◌∙◌, length, slice_get, refl, arith}
+use Rattle.std.proofs.Common.{◌++◌, ap, subst, ◌∙◌, refl}
 use Rattle.std.specs.List.{IsDistinct}
 use Rattle.cache_traces.specs.NamedCache.{named_cache}
 use Rattle.cache_traces.specs.Traces.{rules as of}

@@ -1,4 +1,4 @@
-use Rattle.std.proofs.Common.{rules, ◌≡◌, ℕ, ◌+◌, ◌≤◌, ◌<◌, List, Some, None, Option, sym, ap, subst, ◌∙◌, length, slice_get, refl, arith}
+use Rattle.std.proofs.Common.{rules, ◌≤◌, ◌<◌, Some, sym, ap, subst, ◌∙◌, length, refl}
 use Rattle.std.specs.Prelude.{option_map}
 use Rattle.cache_machine.specs.Machine.{recent_keys}
 use Rattle.cache_traces.specs.declared.act.Act.TheVariants.{Listed}

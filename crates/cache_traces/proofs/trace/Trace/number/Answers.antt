@@ -1,4 +1,4 @@
-use Rattle.std.proofs.Common.{rules, ◌≡◌, sym, ap, subst, ◌∙◌, ◌≤◌, length}
+use Rattle.std.proofs.Common.{rules, sym, ap, subst, ◌∙◌, ◌≤◌, length}
 use Rattle.cache_traces.specs.Named.{steps_of, AllNamed}
 use Rattle.cache_traces.proofs.Naming.{steps_insert, named_insert, grows-insert, grows-same}
 use Rattle.cache_traces.specs.Traced.{Grows}

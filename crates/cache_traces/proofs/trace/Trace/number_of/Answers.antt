@@ -1,5 +1,4 @@
-use Rattle.std.proofs.Common.{rules, ◌≡◌, Bool, true, Some, Option, sym, ap, ◌∙◌, slice_get}
-use Rattle.std.specs.List.{find}
+use Rattle.std.proofs.Common.{◌≡◌, Some, sym, ap, ◌∙◌, slice_get}
 use Rattle.cache_traces.proofs.Naming.{find-passes}
 use Rattle.cache_traces.proofs.trace.Trace.number_of.Goals as goal
 

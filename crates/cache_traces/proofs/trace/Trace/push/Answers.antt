@@ -1,5 +1,4 @@
-use Rattle.std.proofs.Common.{rules, ◌≡◌, List, Some, sym, ap, subst, ◌∙◌}
-use Rattle.cache_traces.specs.declared.act.Act.{Act}
+use Rattle.std.proofs.Common.{rules, ◌≡◌, Some, ap, ◌∙◌}
 use Rattle.cache_traces.specs.Named.{named, steps_of}
 use Rattle.cache_traces.specs.Traced.{and_then}
 use Rattle.cache_traces.proofs.Naming.{steps_then}
