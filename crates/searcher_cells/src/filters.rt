@@ -25,7 +25,7 @@ use view_cells::Seat;
 ///
 /// While another seat evaluates the filter it waits. The gate is told where the seat owns the filter; during the evaluation the
 /// seat holds nothing. Fails only for want of memory, and then the seat owns nothing.
-pub fn filter_set<P: Reads, R: Wait, G: Gate>(
+pub fn set_of_filter<P: Reads, R: Wait, G: Gate>(
     rt: &R,
     alloc: Global,
     seat: &mut Seat<Cell<FilterSet>>,

@@ -9,5 +9,5 @@ mod result_entry;
 
 pub use cell_view::CellView;
 pub use filter_set::FilterSet;
-pub use filters::filter_set;
+pub use filters::set_of_filter;
 pub use result_entry::{ResultEntry, ResultNumbers};
