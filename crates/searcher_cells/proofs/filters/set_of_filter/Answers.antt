@@ -1,4 +1,4 @@
-use Rattle.std.proofs.Common.{◌≡◌, ℕ, Some, None, sym, ap, subst, ◌∙◌, inl, inr, is_some}
+use Rattle.std.proofs.Common.{◌≡◌, ℕ, true, Some, None, sym, ap, subst, ◌∙◌, inl, inr, is_some}
 use Rattle.std.specs.FinSet.{len}
 use Rattle.query_tree.specs.QueryLaws.{query_eq-same}
 use Rattle.query_eval.specs.Found.{answer}
@@ -54,7 +54,7 @@ returns-in_err-finish-in-Ok-clause-no_memory g c =
     let t = c.look_up.new.seat in
     let asks = subst (λ f. AsksFor c.args.query.now 0 (is_again f) (told_by f) (own_list s) (own_list t)) c.in-Own.is c.in_ok-value.ensures.list in
     let owns = own_some c.args.query.now 0 (own_list s) (own_list t) c.in-Own.again asks in
-    on_err c.from_residual-in_err-finish-in-Ok.result (inr (inr (_, (c.in-Own.again, (own_list t, (asks, c.in_err-finish-in-Ok.ensures.list c.args.query.now owns))))))
+    on_err c.from_residual-in_err-finish-in-Ok.result (inr (inr (_, (c.in-Own.again, (own_list t, asks, c.in_err-finish-in-Ok.ensures.list c.args.query.now owns)))))
 
 pub returns-in-Hit-clause-owns : goal.returns-in-Hit-clause-owns
 returns-in-Hit-clause-owns g c =
@@ -79,7 +79,7 @@ returns-in_ok-finish-in-Ok-clause-list g c =
     let asks = subst (λ f. AsksFor q 0 (is_again f) (told_by f) (own_list s) (own_list t)) c.in-Own.is c.in_ok-value.ensures.list in
     let owns = own_some q 0 (own_list s) (own_list t) c.in-Own.again asks in
     let size = ap len (c.new.ensures ∙ c.in-Ok.ensures.same ∙ sym c.in-Ok.ensures.set) in
-    (c.in-Own.again, (own_list t, (asks, subst (λ (n : ℕ). GoesOnBy (Finished q n true) (own_list t) (own_list c.finish.new.seat)) size (c.in_ok-finish-in-Ok.ensures.list q owns))))
+    (c.in-Own.again, (own_list t, asks, subst (λ (n : ℕ). GoesOnBy (Finished q n true) (own_list t) (own_list c.finish.new.seat)) size (c.in_ok-finish-in-Ok.ensures.list q owns)))
 
 pub returns-in-Err-clause-owns : goal.returns-in-Err-clause-owns
 returns-in-Err-clause-owns g c =
@@ -95,4 +95,4 @@ returns-in-Err-clause-no_memory g c =
     let t = c.look_up.new.seat in
     let asks = subst (λ f. AsksFor c.args.query.now 0 (is_again f) (told_by f) (own_list s) (own_list t)) c.in-Own.is c.in_ok-value.ensures.list in
     let owns = own_some c.args.query.now 0 (own_list s) (own_list t) c.in-Own.again asks in
-    inr (inl (c.in-Own.again, (own_list t, (asks, c.give_up.ensures.list c.args.query.now owns))))
+    inr (inl (c.in-Own.again, (own_list t, asks, c.give_up.ensures.list c.args.query.now owns)))
