@@ -1,12 +1,12 @@
 -- Entries that fit, through the calls of a cache.
-use Rattle.std.proofs.Common.{◌≡◌, ℕ, zero, suc, ◌-◌, ◌<◌, Bool, true, false, cond, List, [], ◌∷◌, length, Option, Some, None, refl, sym, ap, subst, ◌∙◌}
-use Rattle.std.specs.Prelude.{slice_set, take, nat_le}
+use Rattle.std.proofs.Common.{◌≡◌, ℕ, zero, suc, ◌-◌, Bool, true, false, cond, List, [], ◌∷◌, length, Option, Some, None, refl, sym, ap, subst, ◌∙◌}
+use Rattle.std.specs.Prelude.{take, nat_le}
 use Rattle.std.specs.List.{AllByRecursion}
 use Rattle.std.specs.Option.{option_map_or, option_and_then}
 use Rattle.std.specs.Map.{lookup, lookup_entry, remove_entry}
 use Rattle.cache_machine.specs.declared.look.Look.{Look}
 use Rattle.cache_machine.specs.declared.look.Look.TheVariants.{Hit, Join, Own}
-use Rattle.cache_machine.specs.Machine.{Kept, Cache, with_entries, owned_by, brought_first, served, stored, cut, light_front, is_light, look_answer, after_answer, after_look, released, finished, answer_by, owner_of}
+use Rattle.cache_machine.specs.Machine.{Kept, Cache, with_entries, owned_by, brought_first, stored, cut, light_front, is_light, look_answer, after_answer, after_look, released, finished, answer_by, owner_of}
 use Rattle.cache_traces.specs.Traces.{Rules}
 use Rattle.cache_traces.specs.TracedCache.{TracedCache, IsTraced}
 use Rattle.cache_traces.proofs.Holding.{IsSized, sized_look, sized_released, sized_finished}
@@ -30,7 +30,7 @@ module _ {K V : Type 0} (Fits : K × V → Type 0) where
       ]) is
 
   -- the value of a key that passes, with that key
-  value_there : (t : K → Bool) (es : List (K × V)) (v : V) → AllByRecursion Fits es → lookup t es ≡ Some v → (k : K) × (t k ≡ true) × Fits (k, v)
+  pub value_there : (t : K → Bool) (es : List (K × V)) (v : V) → AllByRecursion Fits es → lookup t es ≡ Some v → (k : K) × (t k ≡ true) × Fits (k, v)
   value_there t [] v all is = cc
   value_there t (f ∷ es) v all is =
       (elim (t f.0) as (λ b. t f.0 ≡ b → cond b (Some f.1) (lookup t es) ≡ Some v → (k : K) × (t k ≡ true) × Fits (k, v)) [
@@ -38,7 +38,7 @@ module _ {K V : Type 0} (Fits : K × V → Type 0) where
         | false ↦ λ fails later. value_there t es v all.1 later
       ]) refl is
 
-  brought : (eq : K → K → Bool) (k : K) (es : List (K × V)) → AllByRecursion Fits es → AllByRecursion Fits (brought_first eq k es)
+  pub brought : (eq : K → K → Bool) (k : K) (es : List (K × V)) → AllByRecursion Fits es → AllByRecursion Fits (brought_first eq k es)
   brought eq k es all =
       elim (lookup_entry (eq k) es) as (λ o. lookup_entry (eq k) es ≡ o → AllByRecursion Fits (option_map_or (λ e. e ∷ remove_entry (eq k) es) o es)) [
         | None ↦ λ none. all
@@ -63,7 +63,7 @@ module _ {K V : Type 0} (Fits : K × V → Type 0) where
   cut_fits weight size None es all = front size es all
   cut_fits weight size (Some most) es all = light weight most (take size es) (front size es all)
 
-  stored_fits : (eq : K → K → Bool) (weight : V → ℕ) (k : K) (v : V) (c : Kept K V) → AllByRecursion Fits c.entries → Fits (k, v) → AllByRecursion Fits (stored eq weight k v c).entries
+  pub stored_fits : (eq : K → K → Bool) (weight : V → ℕ) (k : K) (v : V) (c : Kept K V) → AllByRecursion Fits c.entries → Fits (k, v) → AllByRecursion Fits (stored eq weight k v c).entries
   stored_fits eq weight k v c all new =
       elim (is_light weight c.greatest v) as (λ b. AllByRecursion Fits (cond b (with_entries c (cut weight c.size c.greatest ((k, v) ∷ remove_entry (eq k) c.entries))) c).entries) [
         | true ↦ cut_fits weight c.size c.greatest ((k, v) ∷ remove_entry (eq k) c.entries) (new, removed (eq k) c.entries all)

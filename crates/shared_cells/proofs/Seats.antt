@@ -1,5 +1,5 @@
 -- Lists of seats' calls.
-use Rattle.std.proofs.Common.{◌≡◌, ◌≢◌, ℕ, ◌<◌, ◌==◌, ◌++◌, Bool, true, false, cond, List, [], ◌∷◌, length, Option, Some, None, refl, true≢false, sym, ap, subst, ◌∙◌, rules, if◌then◌else◌, ◌&&◌}
+use Rattle.std.proofs.Common.{◌≡◌, ◌≢◌, ℕ, ◌==◌, ◌++◌, Bool, true, false, List, [], ◌∷◌, length, Option, Some, None, refl, true≢false, sym, ap, subst, ◌∙◌, rules, if◌then◌else◌, ◌&&◌}
 use Rattle.std.specs.Prelude.{Result, Ok, Err, IfOk, OnOk, OnErr, IsSome}
 use Rattle.std.proofs.lemmas.List.{append-nil}
 use Rattle.cache_machine.specs.Machine.{owned_by, look_answer, after_look, finished as after_finish, released}
@@ -7,7 +7,7 @@ use Rattle.cache_traces.specs.declared.act.Act.{Act}
 use Rattle.cache_traces.specs.declared.act.Act.TheVariants.{Looked as Looks}
 use Rattle.cache_traces.specs.declared.act.Step.{Step}
 use Rattle.cache_traces.specs.declared.told.Told.{Told}
-use Rattle.cache_traces.specs.Acts.{calls_of, owned_from, owned_after}
+use Rattle.cache_traces.specs.Acts.{calls_of, owned_after}
 use Rattle.cache_traces.specs.declared.told.Told.TheVariants.{Joined}
 use Rattle.cache_traces.specs.declared.cells.Looked.{Looked}
 use Rattle.cache_traces.specs.declared.cells.Looked.TheVariants as looked
@@ -21,10 +21,10 @@ use Rattle.shared_cells.specs.Lists.{look_told, AskedBefore, AsksFor}
 use Rattle.shared_cells.specs.Seated.{HitFits}
 use Rattle.shared_cells.proofs.Entries.{pair_fits, same_fits, look_fits, hit_fits, released_fits, finish_fits}
 
-itself : (n : ℕ) → (n == n) ≡ true
+pub itself : (n : ℕ) → (n == n) ≡ true
 itself n = search rules
 
-apart : (n m : ℕ) → m ≢ n → (n == m) ≡ false
+pub apart : (n m : ℕ) → m ≢ n → (n == m) ≡ false
 apart n m h = search rules
 
 module _ {K N : Type 0} where

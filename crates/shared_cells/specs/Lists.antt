@@ -6,6 +6,10 @@ use Rattle.cache_traces.specs.declared.told.Told.{Told}
 use Rattle.cache_traces.specs.declared.told.Told.TheVariants.{Joined}
 use Rattle.cache_traces.specs.Looking.{is_joined}
 
+-- one call more
+abbrev pub GoesOnBy : {E : Type 0} → E → List E → List E → Type 0
+GoesOnBy act old new = new ≡ old ++ act ∷ []
+
 module _ {K N : Type 0} where
   -- the calls before a look-up is answered Hit or Own: it was answered Join once where it is asked again, and else not at all
   abbrev pub AskedBefore : K → ℕ → Bool → List (Act K N) → Type 0
@@ -21,10 +25,6 @@ module _ {K N : Type 0} where
   abbrev pub Asked : K → ℕ → List (Act K N) → List (Act K N) → Type 0
   Asked k need old new =
       (again : Bool) × ((acts : List (Act K N)) × AskedBefore k need again acts × (new ≡ old ++ acts))
-
-  -- one call more
-  abbrev pub GoesOnBy : Act K N → List (Act K N) → List (Act K N) → Type 0
-  GoesOnBy act old new = new ≡ old ++ act ∷ []
 
   -- what a look-up adds to its seat's list
   abbrev pub look_told : K → ℕ → Bool → Told → List (Act K N)

@@ -1,5 +1,5 @@
 -- What contracts say of a seat at a shared cache.
-use Rattle.std.specs.Prelude.{◌≡◌, ◌++◌, ℕ, ◌<◌, Bool, true, Option, Some, None, List}
+use Rattle.std.specs.Prelude.{◌≡◌, ◌++◌, ℕ, ◌<◌, Bool, true, Option, Some, List}
 use Rattle.view_cells.specs.declared.seat.Seat.{Seat}
 use Rattle.view_cells.specs.Seats.{IsIdle, IsSameSeat, view_of, own_list}
 use Rattle.cache_traces.specs.declared.act.Act.{Act}
@@ -11,6 +11,11 @@ use Rattle.cache_traces.specs.Acts.{owned_after}
 use Rattle.shared_cells.specs.Lists.{AskedBefore}
 use Rattle.shared_cells.specs.declared.calls.Found.{Found}
 use Rattle.shared_cells.specs.declared.calls.Found.TheVariants as found
+
+-- the same seat, which holds nothing again
+pub record IsBack {T W E : Type 0} (s t : Seat T W E) : Type 0 where
+  pub seat : IsSameSeat s t
+  pub idle : IsIdle t
 
 module _ {T W K N : Type 0} where
   -- the key that the seat owns, by its list
@@ -25,11 +30,6 @@ module _ {T W K N : Type 0} where
   pub record IsPlaced (seats : W → ℕ) (s : Seat T W (Act K N)) : Type 0 where
     pub idle : IsIdle s
     pub one_of : s.number < seats (view_of s)
-
-  -- the same seat, which holds nothing again
-  pub record IsBack (s t : Seat T W (Act K N)) : Type 0 where
-    pub seat : IsSameSeat s t
-    pub idle : IsIdle t
 
 -- whether it was asked again, and what was told at last
 abbrev pub is_again : {V : Type 0} → Found V → Bool

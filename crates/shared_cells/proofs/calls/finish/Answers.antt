@@ -1,15 +1,14 @@
-use Rattle.std.proofs.Common.{◌≡◌, ◌++◌, ◌∷◌, [], ℕ, ◌<◌, List, Some, None, sym, ap, subst, ◌∙◌}
+use Rattle.std.proofs.Common.{◌≡◌, ◌++◌, ◌∷◌, [], sym, ap, subst, ◌∙◌}
 use Rattle.std.specs.Prelude.{IsSome}
 use Rattle.std.specs.Result.{is_ok}
 use Rattle.view_cells.specs.Lists.{entries_of}
 use Rattle.view_cells.specs.Seats.{view_of, own_list}
 use Rattle.view_cells.specs.Helds.{holder}
 use Rattle.cache_machine.specs.Machine.{owned_by}
-use Rattle.cache_traces.specs.declared.act.Act.TheVariants.{Finished, GaveUp}
+use Rattle.cache_traces.specs.declared.act.Act.TheVariants.{Finished}
 use Rattle.cache_traces.specs.Acts.{calls_of, owned_after}
-use Rattle.cache_traces.specs.Traces.{Rules, rules as of}
+use Rattle.cache_traces.specs.Traces.{rules as of}
 use Rattle.shared_cells.specs.Fitting.{CellFits}
-use Rattle.shared_cells.proofs.Entries.{released_fits}
 use Rattle.shared_cells.proofs.Seats.{owner_told, fits_ended, some_there, own_then, other_then}
 use Rattle.shared_cells.proofs.calls.finish.Goals as goal
 

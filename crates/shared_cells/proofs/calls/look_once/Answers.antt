@@ -1,10 +1,9 @@
-use Rattle.std.proofs.Common.{◌≡◌, ◌++◌, ℕ, ◌<◌, List, None, sym, ap, subst, ◌∙◌}
+use Rattle.std.proofs.Common.{◌≡◌, ◌++◌, sym, ap, subst, ◌∙◌}
 use Rattle.view_cells.specs.Lists.{entries_of}
 use Rattle.view_cells.specs.Seats.{view_of, own_list}
 use Rattle.view_cells.specs.Helds.{holder}
-use Rattle.cache_machine.specs.Machine.{owned_by}
 use Rattle.cache_traces.specs.Acts.{calls_of, owned_after}
-use Rattle.cache_traces.specs.Traces.{Rules, rules as of}
+use Rattle.cache_traces.specs.Traces.{rules as of}
 use Rattle.shared_cells.specs.Fitting.{CellFits}
 use Rattle.shared_cells.proofs.Seats.{owner_told, fits_looked, own_looked, others_looked, list_looked, hit_looked}
 use Rattle.shared_cells.proofs.calls.look_once.Goals as goal

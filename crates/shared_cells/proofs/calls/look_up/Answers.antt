@@ -1,6 +1,5 @@
-use Rattle.std.proofs.Common.{◌≡◌, List, None, sym, ap, ◌∙◌}
 use Rattle.view_cells.specs.Seats.{own_list}
-use Rattle.shared_cells.proofs.Seats.{owns_none, asks_for, asked_on}
+use Rattle.shared_cells.proofs.Seats.{owns_none}
 use Rattle.shared_cells.proofs.calls.look_up.Goals as goal
 
 pub look_once-requires-clause-owns : goal.look_once-requires-clause-owns
