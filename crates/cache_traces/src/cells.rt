@@ -199,6 +199,15 @@ impl<K: Eq + Hash + Drop, V: Counted> TracedCells<K, V> {
         Ok(numbers)
     }
 
+    /// The numbers of the most recently used keys, at most so many, the most recent first, without a call that is told. It
+    /// costs a step for each.
+    pub fn newest(&self, alloc: Global, most: u32) -> Result<Vec<u32>, AllocError>
+        ensures { IfOk result (λ ns.
+            all_named self.now.keys ns.items ≡ Some (recent_keys most self.now.cache.kept)) }
+    {
+        newest(alloc, &self.cells, most)
+    }
+
     /// How many values are kept. It takes no memory.
     pub fn len(&self) -> u32
         ensures { result ≡ length self.now.cache.kept.entries }

@@ -50,6 +50,20 @@ module _ {K N : Type 0} where
         | false ↦ other_then steps n m (Looks k need again t) h
       ]
 
+  -- one more call where it was Ok, and none else
+  module _ {T E : Type 0} (old new : List (Step K N)) (n : ℕ) (act : T → Act K N) where
+    pub own_told : (result : Result T E) → IfOk result (λ a. new ≡ and_then old n (act a)) → OnErr result (new ≡ old) → (more : List (Act K N)) × (calls_of n new ≡ calls_of n old ++ more)
+    own_told (Ok a) ok err = (act a ∷ [], ap (calls_of n) ok ∙ own_then old n (act a))
+    own_told (Err e) ok err = ([], ap (calls_of n) err ∙ sym (append-nil (calls_of n old)))
+
+    pub others_told : (result : Result T E) → IfOk result (λ a. new ≡ and_then old n (act a)) → OnErr result (new ≡ old) → (m : ℕ) → m ≢ n → calls_of m new ≡ calls_of m old
+    others_told (Ok a) ok err m h = ap (calls_of m) ok ∙ other_then old n m (act a) h
+    others_told (Err e) ok err m h = ap (calls_of m) err
+
+    pub list_told : (before after : List (Act K N)) → calls_of n old ≡ before → after ≡ calls_of n new → (result : Result T E) → IfOk result (λ a. new ≡ and_then old n (act a)) → IfOk result (λ a. after ≡ before ++ act a ∷ [])
+    list_told before after had now (Ok a) ok = now ∙ ap (calls_of n) ok ∙ own_then old n (act a) ∙ ap (λ l. l ++ act a ∷ []) had
+    list_told before after had now (Err e) ok = tt
+
 -- the key that a seat owns is the one that its list tells
 pub owner_told : {K V N : Type 0} (r : Rules K V N) (t : TracedCache K V N) → IsTraced r t → (seat : ℕ) → owned_by t.cache seat ≡ owned_after (calls_of seat t.steps)
 owner_told r t traced seat = (owns r t.cache.kept.size t.cache.kept.greatest (length t.cache.pending) t.steps t.cache traced).owned seat

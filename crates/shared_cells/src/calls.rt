@@ -1,13 +1,13 @@
-ghost use Rattle.std.specs.Prelude.{◌≡◌, ◌++◌, IfOk, OnErr, IsSome, None};
+ghost use Rattle.std.specs.Prelude.{◌≡◌, ◌≤◌, ◌++◌, length, IfOk, OnErr, IsSome, None};
 ghost use Rattle.std.specs.Result.{is_ok};
-ghost use Rattle.cache_traces.specs.declared.act.Act.TheVariants.{Finished, GaveUp};
+ghost use Rattle.cache_traces.specs.declared.act.Act.TheVariants.{Finished, GaveUp, Listed};
 ghost use Rattle.view_cells.specs.Seats.{view_of, own_list};
 ghost use Rattle.cache_traces.specs.Looking.{told_of};
 ghost use Rattle.cache_traces.specs.Traced.{AreSame};
 ghost use Rattle.shared_cells.specs.Lists.{look_told, AsksFor, Asked, GoesOnBy};
 ghost use Rattle.shared_cells.specs.Seated.{IsPlaced, IsBack, HitFits, FoundFits, OfOwned, is_again, told_by, owned_key};
 
-use crate::cell::{Cell, ended, given_up, looked};
+use crate::cell::{Cell, ended, given_up, listed, looked};
 use crate::kept::Kept;
 use cache_traces::Looked;
 use std::alloc::{AllocError, Global};
@@ -90,6 +90,29 @@ pub fn give_up<V: Kept, R: Wait>(rt: &R, seat: &mut Seat<Cell<V>>)
     let mut held = seat.take(rt);
     given_up(held.value(), number);
     held.put_back();
+}
+
+/// Copies of the most recently used keys, at most so many, the most recent first. It waits for the cache.
+///
+/// Fails only for want of memory; the call is then not told.
+pub fn recent<V: Kept, R: Wait>(
+    rt: &R,
+    alloc: Global,
+    seat: &mut Seat<Cell<V>>,
+    most: u32,
+) -> Result<Vec<V::Key>, AllocError>
+    requires placed { IsPlaced V.seats seat.old }
+    ensures back { IsBack seat.old seat.new }
+    ensures few { IfOk result (λ ks. length ks.items ≤ most) }
+    ensures list { IfOk result (λ ks. GoesOnBy (Listed most ks.items)
+        (own_list seat.old) (own_list seat.new)) }
+    ensures list_stays { OnErr result (own_list seat.new ≡ own_list seat.old) }
+{
+    let number = seat.number();
+    let mut held = seat.take(rt);
+    let result = listed(alloc, held.value(), most, number);
+    held.put_back();
+    result
 }
 
 // Takes the cache, looks a key up once, and puts the cache back.

@@ -1,8 +1,9 @@
-ghost use Rattle.std.specs.Prelude.{◌≡◌, ◌<◌, IfOk, OnOk, OnErr, IsSome, None, Some, length, slice_get};
+ghost use Rattle.std.specs.Prelude.{◌≡◌, ◌<◌, ◌≤◌, IfOk, OnOk, OnErr, IsSome, None, Some, length, slice_get};
 ghost use Rattle.cache_machine.specs.Machine.{owned_by, look_answer, after_look, finished as after_finish, released};
 ghost use Rattle.cache_traces.specs.Looking.{answer_of, told_of, with_look};
 ghost use Rattle.cache_traces.specs.Traced.{AreSame, and_then};
-ghost use Rattle.cache_traces.specs.declared.act.Act.TheVariants.{Finished, GaveUp};
+ghost use Rattle.cache_traces.specs.declared.act.Act.TheVariants.{Finished, GaveUp, Listed};
+ghost use Rattle.cache_traces.specs.Named.{all_named};
 ghost use Rattle.std.specs.Result.{is_ok};
 ghost use Rattle.cache_traces.specs.TracedCache.{IsTraced};
 ghost use Rattle.cache_traces.specs.Traces.{rules};
@@ -137,4 +138,62 @@ pub(crate) fn given_up<V: Kept>(cell: &mut Cell<V>, seat: u32)
     let cells = &mut cell.cells;
     cells.give_up(seat);
     let _seats = cells.seats();
+}
+
+// Copies of the most recently used keys.
+pub(crate) fn listed<V: Kept>(
+    alloc: Global,
+    cell: &mut Cell<V>,
+    most: u32,
+    seat: u32,
+) -> Result<Vec<V::Key>, AllocError>
+    requires seat { seat < length cell.old.cells.cache.pending }
+    ensures few { IfOk result (λ ks. length ks.items ≤ most) }
+    ensures cache { cell.new.cells.cache ≡ cell.old.cells.cache }
+    ensures steps { IfOk result (λ ks. cell.new.cells.steps
+        ≡ and_then cell.old.cells.steps seat (Listed most ks.items)) }
+    ensures steps_stay { OnErr result (cell.new.cells.steps ≡ cell.old.cells.steps) }
+    ensures traced { IsTraced (rules V.Key.eq V.weight V.serves V.numbers V.keeps) cell.new.cells }
+{
+    let cells = &mut cell.cells;
+    let result = recent_of(alloc, cells, most, seat);
+    let _seats = cells.seats();
+    result
+}
+
+// The same of the cache alone. All copies are there before the call is told.
+fn recent_of<V: Kept>(
+    alloc: Global,
+    cells: &mut TracedCells<V::Key, V>,
+    most: u32,
+    seat: u32,
+) -> Result<Vec<V::Key>, AllocError>
+    requires seat { seat < length cells.old.cache.pending }
+    ensures few { IfOk result (λ ks. length ks.items ≤ most) }
+    ensures cache { cells.new.cache ≡ cells.old.cache }
+    ensures steps { IfOk result (λ ks. cells.new.steps
+        ≡ and_then cells.old.steps seat (Listed most ks.items)) }
+    ensures steps_stay { OnErr result (cells.new.steps ≡ cells.old.steps) }
+{
+    let numbers = cells.newest(alloc, most)?;
+    let keys = copies(alloc, cells, &numbers)?;
+    cells.recent(alloc, most, seat)?;
+    Ok(keys)
+}
+
+// Copies of the keys of these numbers.
+fn copies<V: Kept>(
+    alloc: Global,
+    cells: &TracedCells<V::Key, V>,
+    numbers: &[u32],
+) -> Result<Vec<V::Key>, AllocError>
+    requires { IsSome (all_named cells.now.keys numbers.now) }
+    ensures { IfOk result (λ ks. all_named cells.now.keys numbers.now ≡ Some ks.items) }
+{
+    let mut keys = Vec::new(alloc);
+    for number in numbers {
+        let key = V::copy(alloc, cells.key(*number))?;
+        keys.push(key)?;
+    }
+    Ok(keys)
 }

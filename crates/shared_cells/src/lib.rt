@@ -9,7 +9,7 @@ mod numbered;
 mod store_calls;
 mod store_cell;
 
-pub use calls::{Found, finish, give_up, look_up};
+pub use calls::{Found, finish, give_up, look_up, recent};
 pub use cell::Cell;
 pub use kept::Kept;
 pub use numbered::Numbered;
