@@ -52,7 +52,8 @@ impl<V: Counted> TracedStore<V> {
     ///
     /// Where memory is wanting, for the value or for the call, nothing changed.
     pub fn look(&mut self, number: u32, seat: u32) -> Result<Option<V>, AllocError>
-        ensures answer { IfOk result (λ v. v ≡ served nat_eq (V.serves 0) number self.old.kept.entries) }
+        ensures answer { IfOk result (λ v. v
+            ≡ served nat_eq (V.serves 0) number self.old.kept.entries) }
         ensures after { IfOk result (λ v. self.new.kept
             ≡ after_found nat_eq number (is_some v) self.old.kept) }
         ensures steps { IfOk result (λ v. self.new.steps

@@ -38,14 +38,16 @@ pub(crate) fn fetched<V: Numbered>(
     number: u32,
     seat: u32,
 ) -> Result<Option<V>, AllocError>
-    ensures answer { IfOk result (λ v. v ≡ served nat_eq (V.serves 0) number cell.old.cells.kept.entries) }
+    ensures answer { IfOk result (λ v. v
+        ≡ served nat_eq (V.serves 0) number cell.old.cells.kept.entries) }
     ensures after { IfOk result (λ v. cell.new.cells.kept
         ≡ after_found nat_eq number (is_some v) cell.old.cells.kept) }
     ensures steps { IfOk result (λ v. cell.new.cells.steps
         ≡ one_more cell.old.cells.steps seat (Looked number (is_some v))) }
     ensures kept_stays { OnErr result (cell.new.cells.kept ≡ cell.old.cells.kept) }
     ensures steps_stay { OnErr result (cell.new.cells.steps ≡ cell.old.cells.steps) }
-    ensures traced { IsTracedStore (rules nat_eq V.weight V.serves V.numbers V.keeps) cell.new.cells }
+    ensures traced { IsTracedStore (rules nat_eq V.weight V.serves V.numbers V.keeps)
+        cell.new.cells }
 {
     let cells = &mut cell.cells;
     let result = cells.look(number, seat);
@@ -66,7 +68,8 @@ pub(crate) fn stored<V: Numbered>(
         ≡ one_more cell.old.cells.steps seat (Put number (V.numbers 0 value))) }
     ensures kept_stays { OnErr result (cell.new.cells.kept ≡ cell.old.cells.kept) }
     ensures steps_stay { OnErr result (cell.new.cells.steps ≡ cell.old.cells.steps) }
-    ensures traced { IsTracedStore (rules nat_eq V.weight V.serves V.numbers V.keeps) cell.new.cells }
+    ensures traced { IsTracedStore (rules nat_eq V.weight V.serves V.numbers V.keeps)
+        cell.new.cells }
 {
     let cells = &mut cell.cells;
     let result = cells.put(number, value, seat);
