@@ -1,5 +1,5 @@
--- By which calls a filter is had from its cache.
-use Rattle.std.specs.Prelude.{ℕ, ◌⊎◌, Bool, true, false, List}
+-- By which calls a filter, or a document, is had from its cache.
+use Rattle.std.specs.Prelude.{◌≡◌, ℕ, Option, ◌⊎◌, Bool, true, false, List}
 use Rattle.query_tree.specs.declared.query.Query.{Query}
 use Rattle.doc_sets.specs.Sets.{Numbers}
 use Rattle.search_model.specs.declared.notes.Note.{Note}
@@ -8,7 +8,10 @@ use Rattle.cache_traces.specs.declared.act.Act.{Act}
 use Rattle.cache_traces.specs.declared.act.Act.TheVariants.{Finished, GaveUp}
 use Rattle.cache_traces.specs.declared.told.Told.TheVariants.{Hit, Owned}
 use Rattle.shared_cells.specs.Lists.{AsksFor, Asked, GoesOnBy}
-use Rattle.searcher_cells.specs.Sights.{size_of}
+use Rattle.doc_model.specs.Document.{Document}
+use Rattle.cache_traces.specs.declared.store_act.StoreAct.{StoreAct}
+use Rattle.cache_traces.specs.declared.store_act.StoreAct.TheVariants as store
+use Rattle.searcher_cells.specs.Sights.{size_of, values_of}
 
 -- A key that the seat owned was ended by this call.
 abbrev pub Ends : {K N : Type 0} → K → ℕ → Act K N → List (Act K N) → List (Act K N) → Type 0
@@ -27,3 +30,15 @@ abbrev pub RefusedCalls : {K N : Type 0} → K → ℕ → List (Act K N) → Li
 RefusedCalls {K} {N} k need old new =
     Asked k need old new
     ⊎ (Ends k need (GaveUp k) old new ⊎ ((n : N) × Ends k need (Finished k n false) old new))
+
+-- ---- documents
+
+-- by whether the document was there
+abbrev pub DocumentCalls : ℕ → Bool → Document → List (StoreAct (Option ℕ)) → List (StoreAct (Option ℕ)) → Type 0
+DocumentCalls n true d old new = GoesOnBy (store.Looked n true) old new
+DocumentCalls n false d old new =
+    (mid : List (StoreAct (Option ℕ))) × GoesOnBy (store.Looked n false) old mid × GoesOnBy (store.Put n (values_of d)) mid new
+
+-- Where memory was wanting: no call, or a look-up that found nothing.
+abbrev pub RefusedDocument : ℕ → List (StoreAct (Option ℕ)) → List (StoreAct (Option ℕ)) → Type 0
+RefusedDocument n old new = (new ≡ old) ⊎ GoesOnBy (store.Looked n false) old new

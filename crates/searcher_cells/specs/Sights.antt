@@ -1,9 +1,11 @@
 -- What the caches of a searcher are about, and when an entry fits that.
-use Rattle.std.specs.Prelude.{◌≡◌, ℕ, length, nat_le, Bool, true}
+use Rattle.std.specs.Prelude.{◌≡◌, ℕ, length, nat_le, Bool, true, Option, Some}
 use Rattle.std.specs.FinSet.{len}
 use Rattle.doc_sets.specs.Sets.{Numbers}
 use Rattle.query_tree.specs.declared.query.Query.{Query}
-use Rattle.segment_postings.specs.Numbered.{Numbered}
+use Rattle.doc_model.specs.Document.{Document, value_count}
+use Rattle.cache_cells.specs.Within.{within}
+use Rattle.segment_postings.specs.Numbered.{Numbered, doc_at}
 use Rattle.search_model.specs.Answer.{is_hit}
 use Rattle.sort_window.specs.First.{first_numbers}
 use Rattle.query_eval.specs.Found.{found, answer}
@@ -47,3 +49,16 @@ numbers_of most e = record { ids = length e.ids; found = e.found; most = most }
 -- a result is kept where it lists few enough
 abbrev pub is_kept : ResultNumbers → Bool
 is_kept n = nat_le n.ids n.most
+
+-- ---- documents
+
+-- the document is the view's of that number
+abbrev pub DocumentFits : Sight → ℕ → Document → Type 0
+DocumentFits v n d = doc_at v.view n ≡ Some d
+
+-- a document is told by the number of its values, if that is below 2^64, and always kept
+abbrev pub values_of : Document → Option ℕ
+values_of d = within 18446744073709551615 (value_count d)
+
+abbrev pub any_count : Option ℕ → Bool
+any_count n = true

@@ -3,11 +3,15 @@
 #![tactic(auto)]
 
 mod cell_view;
+mod document_value;
+mod documents;
 mod filter_set;
 mod filters;
 mod result_entry;
 
 pub use cell_view::CellView;
+pub use document_value::DocumentValue;
+pub use documents::document;
 pub use filter_set::FilterSet;
 pub use filters::set_of_filter;
 pub use result_entry::{ResultEntry, ResultNumbers};
