@@ -7,6 +7,7 @@ mod document_value;
 mod documents;
 mod filter_set;
 mod filters;
+mod making;
 mod result_entry;
 
 pub use cell_view::CellView;
@@ -14,4 +15,5 @@ pub use document_value::DocumentValue;
 pub use documents::document;
 pub use filter_set::FilterSet;
 pub use filters::set_of_filter;
+pub use making::{document_seats, filter_seats, result_seats};
 pub use result_entry::{ResultEntry, ResultNumbers};
