@@ -142,7 +142,8 @@ impl<K: Eq + Hash + Drop, V: Counted> TracedCells<K, V> {
             (V.keeps (V.numbers most value)) self.old.cache) }
         ensures no_memory { OnErr result (self.new.cache ≡ released seat self.old.cache) }
         ensures steps { (k : K) → owned_by self.old.cache seat ≡ Some k
-            → self.new.steps ≡ and_then self.old.steps seat (Finished k (V.numbers most value) (is_ok result)) }
+            → self.new.steps ≡ and_then self.old.steps seat
+            (Finished k (V.numbers most value) (is_ok result)) }
     {
         let key = owned(&self.cells, seat);
         let numbers = value.numbers(most);

@@ -32,8 +32,10 @@ pub fn document<P: Reads, R: Wait>(
     requires view { P.view probe.old ≡ (view_of seat.old).view }
     ensures back { IsBack seat.old seat.new }
     ensures doc { IfOk result (λ r. doc_at (P.view probe.old) number ≡ Some (arc_value r.0)) }
-    ensures list { IfOk result (λ r. DocumentCalls number r.1 (arc_value r.0) (own_list seat.old) (own_list seat.new)) }
-    ensures no_memory { OnErr result (RefusedDocument number (own_list seat.old) (own_list seat.new)) }
+    ensures list { IfOk result (λ r. DocumentCalls number r.1 (arc_value r.0)
+        (own_list seat.old) (own_list seat.new)) }
+    ensures no_memory { OnErr result
+        (RefusedDocument number (own_list seat.old) (own_list seat.new)) }
     ensures stored { IfOk result (λ r. (P.counted probe.new).stored
         ≡ (if r.1 then (P.counted probe.old).stored else raised (P.counted probe.old).stored)) }
     ensures view { P.view probe.new ≡ P.view probe.old }

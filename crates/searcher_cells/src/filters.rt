@@ -41,8 +41,10 @@ pub fn set_of_filter<P: Reads, R: Wait, G: Gate>(
     ensures owns { owned_key seat.new ≡ None }
     ensures kept { KeptSpec P.view P.terms P.counted probe.old probe.new }
     ensures set { IfOk result (λ r. arc_value r.0 ≡ answer query.now (P.view probe.old)) }
-    ensures list { IfOk result (λ r. FilterCalls query.now r.1 (arc_value r.0) (own_list seat.old) (own_list seat.new)) }
-    ensures no_memory { OnErr result (RefusedCalls query.now 0 (own_list seat.old) (own_list seat.new)) }
+    ensures list { IfOk result (λ r. FilterCalls query.now r.1 (arc_value r.0)
+        (own_list seat.old) (own_list seat.new)) }
+    ensures no_memory { OnErr result
+        (RefusedCalls query.now 0 (own_list seat.old) (own_list seat.new)) }
 {
     match look_up(rt, alloc, seat, query, 0)? {
         Found::Hit { value, again } => Ok((value.into_set(), noted(again))),

@@ -28,7 +28,8 @@ pub fn filter_seats(
     requires size { IsCacheSize size }
     requires seats { IsSeatCount seats }
     ensures count { IfOk result (λ made. length made.items ≡ seats) }
-    ensures seats { IfOk result (λ made. AreSeats (sight (arc_value view).seen size seats) seats made.items) }
+    ensures seats { IfOk result (λ made.
+        AreSeats (sight (arc_value view).seen size seats) seats made.items) }
 {
     cell_seats(alloc, CellView::new(view, size, seats), size, seats)
 }
@@ -45,7 +46,8 @@ pub fn result_seats(
     requires size { IsCacheSize size }
     requires seats { IsSeatCount seats }
     ensures count { IfOk result (λ made. length made.items ≡ seats) }
-    ensures seats { IfOk result (λ made. AreSeats (sight (arc_value view).seen size seats) seats made.items) }
+    ensures seats { IfOk result (λ made.
+        AreSeats (sight (arc_value view).seen size seats) seats made.items) }
 {
     cell_seats(alloc, CellView::new(view, size, seats), size, seats)
 }
@@ -62,7 +64,8 @@ pub fn document_seats(
     requires size { IsCacheSize size }
     requires seats { IsSeatCount seats }
     ensures count { IfOk result (λ made. length made.items ≡ seats) }
-    ensures seats { IfOk result (λ made. AreSeats (sight (arc_value view).seen size seats) seats made.items) }
+    ensures seats { IfOk result (λ made.
+        AreSeats (sight (arc_value view).seen size seats) seats made.items) }
 {
     let about = CellView::new(view, size, seats);
     let store = empty_store(alloc, size)?;
@@ -96,7 +99,8 @@ fn cell_seats<V: Kept<View = CellView>>(
 // A cache that keeps nothing.
 fn empty_cell<V: Kept>(alloc: Global, size: u32, seats: u32) -> Result<Cell<V>, NoMemory>
     requires { 0 < size }
-    ensures { IfOk result (λ c. IsEmptyCell (rules V.Key.eq V.weight V.serves V.numbers V.keeps) size seats c.cells) }
+    ensures { IfOk result (λ c.
+        IsEmptyCell (rules V.Key.eq V.weight V.serves V.numbers V.keeps) size seats c.cells) }
 {
     let cells = TracedCells::new(alloc, size, None, seats)?;
     let _seats = cells.seats();

@@ -40,7 +40,8 @@ pub fn look_up<V: Kept, R: Wait>(
     requires owns { owned_key seat.old ≡ None }
     ensures back { IsBack seat.old seat.new }
     ensures hit { IfOk result (FoundFits (V.fits (view_of seat.old)) (V.serves need) key.now) }
-    ensures list { IfOk result (λ f. AsksFor key.now need (is_again f) (told_by f) (own_list seat.old) (own_list seat.new)) }
+    ensures list { IfOk result (λ f. AsksFor key.now need (is_again f) (told_by f)
+        (own_list seat.old) (own_list seat.new)) }
     ensures no_memory { OnErr result (Asked key.now need (own_list seat.old) (own_list seat.new)) }
 {
     let mut again = false;
@@ -69,7 +70,8 @@ pub fn finish<V: Kept, R: Wait>(
     requires owns { IsSome (owned_key seat.old) }
     requires fits { OfOwned seat.old (λ k. V.fits (view_of seat.old) k value) }
     ensures back { IsBack seat.old seat.new }
-    ensures list { OfOwned seat.old (λ k. GoesOnBy (Finished k (V.numbers most value) (is_ok result))
+    ensures list { OfOwned seat.old (λ k.
+        GoesOnBy (Finished k (V.numbers most value) (is_ok result))
         (own_list seat.old) (own_list seat.new)) }
 {
     let number = seat.number();
@@ -84,7 +86,8 @@ pub fn give_up<V: Kept, R: Wait>(rt: &R, seat: &mut Seat<Cell<V>>)
     requires placed { IsPlaced V.seats seat.old }
     requires owns { IsSome (owned_key seat.old) }
     ensures back { IsBack seat.old seat.new }
-    ensures list { OfOwned seat.old (λ k. GoesOnBy (GaveUp k) (own_list seat.old) (own_list seat.new)) }
+    ensures list { OfOwned seat.old (λ k. GoesOnBy (GaveUp k)
+        (own_list seat.old) (own_list seat.new)) }
 {
     let number = seat.number();
     let mut held = seat.take(rt);
