@@ -1,6 +1,7 @@
 -- By which calls a filter, or a document, is had from its cache.
 use Rattle.std.specs.Prelude.{◌≡◌, ℕ, Option, ◌⊎◌, Bool, true, false, List}
-use Rattle.query_tree.specs.declared.query.Query.{Query}
+use Rattle.query_tree.specs.declared.query.Query.{Query, out-Query}
+use Rattle.query_eval.specs.Kept.{Asks}
 use Rattle.doc_sets.specs.Sets.{Numbers}
 use Rattle.search_model.specs.declared.notes.Note.{Note}
 use Rattle.search_model.specs.declared.notes.Note.TheVariants as note
@@ -24,6 +25,13 @@ FilterCalls q note.Hit s old new = AsksFor q 0 false Hit old new
 FilterCalls q note.Joined s old new = AsksFor q 0 true Hit old new
 FilterCalls q note.Computed s old new = Ends q 0 (Finished q (size_of s) true) old new
 FilterCalls q note.Bypassed s old new = ⊥
+
+-- how a filter raises the count of postings: one that was computed asks for them, and another reads none
+abbrev pub AsksByNote : Note → Query → ℕ → ℕ → Type 0
+AsksByNote note.Hit q before after = after ≡ before
+AsksByNote note.Joined q before after = after ≡ before
+AsksByNote note.Computed q before after = Asks (out-Query q) before after
+AsksByNote note.Bypassed q before after = after ≡ before
 
 -- Where memory was wanting: the look-up alone, or with the end of the key that was owned.
 abbrev pub RefusedCalls : {K N : Type 0} → K → ℕ → List (Act K N) → List (Act K N) → Type 0

@@ -6,7 +6,7 @@ ghost use Rattle.query_eval.specs.Found.{answer};
 ghost use Rattle.query_eval.specs.Kept.{Asks, Kept as KeptSpec};
 ghost use Rattle.view_cells.specs.Seats.{view_of, own_list};
 ghost use Rattle.shared_cells.specs.Seated.{IsPlaced, IsBack, owned_key};
-ghost use Rattle.searcher_cells.specs.Calls.{FilterCalls, RefusedCalls};
+ghost use Rattle.searcher_cells.specs.Calls.{AsksByNote, FilterCalls, RefusedCalls};
 
 use crate::filter_set::FilterSet;
 use doc_sets::DocSet;
@@ -41,6 +41,8 @@ pub fn set_of_filter<P: Reads, R: Wait, G: Gate>(
     ensures owns { owned_key seat.new ≡ None }
     ensures kept { KeptSpec P.view P.terms P.counted probe.old probe.new }
     ensures set { IfOk result (λ r. arc_value r.0 ≡ answer query.now (P.view probe.old)) }
+    ensures asked { IfOk result (λ r. AsksByNote r.1 query.now
+        (P.counted probe.old).postings (P.counted probe.new).postings) }
     ensures list { IfOk result (λ r. FilterCalls query.now r.1 (arc_value r.0)
         (own_list seat.old) (own_list seat.new)) }
     ensures no_memory { OnErr result
