@@ -6,6 +6,7 @@
 
 mod fails;
 mod gate;
+mod hold_gate;
 mod mem_sink;
 mod mem_source;
 mod sink;
@@ -13,6 +14,7 @@ mod source;
 mod streams;
 
 pub use gate::{Gate, Moment, OpenGate};
+pub use hold_gate::{Hold, HoldGate};
 pub use mem_sink::MemSink;
 pub use mem_source::MemSource;
 pub use sink::Sink;

@@ -1,4 +1,4 @@
-//! Callers on threads: the tests of `view_cells` and `searcher_table`.
+//! Callers on threads: the tests of `view_cells`, `searcher_table` and of `rt_edge`'s gate that holds callers.
 #![tactic(auto)]
 
 #[cfg(test)]
@@ -7,6 +7,8 @@ mod crowd;
 mod desk;
 #[cfg(test)]
 mod doors;
+#[cfg(test)]
+mod gates;
 #[cfg(test)]
 mod publications;
 #[cfg(test)]
