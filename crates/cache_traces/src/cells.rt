@@ -209,6 +209,14 @@ impl<K: Eq + Hash + Drop, V: Counted> TracedCells<K, V> {
         newest(alloc, &self.cells, most)
     }
 
+    /// Gives the cache up for its calls, and drops what it kept.
+    pub fn into_trace(self) -> Trace<K, V::Numbers>
+        ensures keys { result.keys ≡ self.keys }
+        ensures steps { result.steps ≡ self.steps }
+    {
+        self.trace
+    }
+
     /// How many values are kept. It takes no memory.
     pub fn len(&self) -> u32
         ensures { result ≡ length self.now.cache.kept.entries }

@@ -90,6 +90,13 @@ impl<V: Counted> TracedStore<V> {
         Ok(())
     }
 
+    /// Gives the store up for its calls, and drops what it kept.
+    pub fn into_steps(self) -> Vec<StoreStep<V::Numbers>>
+        ensures { result.items ≡ self.steps }
+    {
+        self.records
+    }
+
     /// How many values are kept. It takes no memory.
     pub fn len(&self) -> u32
         ensures len { result ≡ length self.now.kept.entries }

@@ -1,7 +1,7 @@
 ghost use Rattle.std.specs.Prelude.{◌≡◌, ◌+◌, ◌<◌, ◌≤◌, length, IfOk, OnOk, OnErr, IfSome, Some, IsSome, [], slice_get};
 ghost use Rattle.std.specs.List.{IsDistinct};
 ghost use Rattle.cache_traces.specs.declared.act.Act.{Act};
-ghost use Rattle.cache_traces.specs.Named.{named};
+ghost use Rattle.cache_traces.specs.Named.{named, steps_of, AllNamed};
 ghost use Rattle.cache_traces.specs.Traced.{AreSame, Grows, and_then};
 
 use crate::record::{Done, Record};
@@ -85,6 +85,14 @@ impl<K: Eq + Hash + Drop, N: Drop> Trace<K, N> {
             Ok((at, _new)) => Ok(at as u32),
             Err(_key) => Err(AllocError),
         }
+    }
+
+    /// The calls, in their order, with keys by their numbers. It costs nothing.
+    pub fn records(&self) -> &[Record<N>]
+        ensures steps { self.now.steps ≡ steps_of self.now.keys result.now }
+        ensures named { AllNamed self.now.keys result.now }
+    {
+        &self.records
     }
 
     /// Takes the room for so many more calls. Where memory is wanting, nothing changed.
