@@ -5,7 +5,8 @@ set -e
 here=$(pwd)
 work=$(mktemp -d)
 names="rt_edge field_schema doc_model query_tree query_lexemes query_text request_form doc_sets segment_postings sort_order sort_window
-    query_eval search_model reply_json cache_machine cache_cells filter_cache result_cache document_cache searcher_core"
+    query_eval search_model reply_json cache_machine cache_cells cache_traces shared_cells view_cells filter_cache result_cache document_cache
+    searcher_cells searcher_core"
 for name in $names; do
     mkdir -p "$work/crates/$name"
     for part in src specs proofs; do
@@ -16,7 +17,7 @@ done
 cp "$here/HANDLES" "$work/"
 bench="$work/crates/requests_bench"
 mkdir -p "$bench/src"
-echo requests_bench: $names lru sqlite_items form_urlencoded serde_json >> "$work/crates.txt"
+echo requests_bench: $names atomic_table lru indexmap sqlite_items form_urlencoded serde_json >> "$work/crates.txt"
 cp "$here/bench/searcher_core/requests.txt" "$bench/src/main.rt"
 (cd "$bench" && rt run > "$work/log.txt" 2>&1) || { cat "$work/log.txt"; exit 1; }
 for round in 1 2 3; do

@@ -7,9 +7,11 @@ use doc_sets::DocSet;
 use field_schema::{FieldNo, Key, Schema};
 use query_text::{Op, read_sort};
 use query_tree::Query;
+use rt_edge::OpenGate;
 use served_index::Index;
 use sort_window::window;
 use std::alloc::Global;
+use std::sync::Wait;
 use std::test::Fail;
 
 // What the rows speak of: a schema, a view, an index, and a door to one of its searchers.
@@ -36,7 +38,7 @@ impl Desk {
     }
 
     // Does what a row says, and gives what stands behind it.
-    pub(crate) fn take(&mut self, row: &str) -> Result<String, Fail> {
+    pub(crate) fn take<R: Wait>(&mut self, rt: &R, row: &str) -> Result<String, Fail> {
         let (verb, rest) = reading::first_word(row);
         let mut told = String::new(self.alloc);
         if verb.is_empty() || verb == "#" || self.grow(verb, rest)? || self.update(verb, rest)? {
@@ -44,9 +46,9 @@ impl Desk {
         }
         told.push_str(" =>")?;
         match verb.as_bytes() {
-            b"serve" => self.serve(rest, false, &mut told)?,
-            b"count" => self.serve(rest, true, &mut told)?,
-            _ => self.answer(verb, rest, &mut told)?,
+            b"serve" => self.serve(rt, rest, false, &mut told)?,
+            b"count" => self.serve(rt, rest, true, &mut told)?,
+            _ => self.answer(rt, verb, rest, &mut told)?,
         }
         Ok(told)
     }
@@ -86,7 +88,13 @@ impl Desk {
     }
 
     // Adds the answer of a question.
-    fn answer(&self, verb: &str, rest: &str, told: &mut String) -> Result<(), Fail> {
+    fn answer<R: Wait>(
+        &self,
+        rt: &R,
+        verb: &str,
+        rest: &str,
+        told: &mut String,
+    ) -> Result<(), Fail> {
         let (alloc, view) = (self.alloc, self.growing.view());
         match verb.as_bytes() {
             b"size" => asking::tell_view(alloc, view, told),
@@ -107,16 +115,22 @@ impl Desk {
             b"asks" => asking::tell_asked(alloc, view, &self.query(Op::Or, rest)?, told),
             b"first" => self.tell_first(rest, told),
             b"window" => tell_window(alloc, rest, told),
-            b"page" => serving::tell_page(alloc, &self.schema, &self.index, rest, told),
+            b"page" => serving::tell_page(rt, alloc, &self.schema, &self.index, rest, told),
             _ => Err(Fail::new("no verb")),
         }
     }
 
     // Adds what the searcher of the kept door serves, and how often its view was read for it where that is wanted.
-    fn serve(&mut self, params: &str, counts_too: bool, told: &mut String) -> Result<(), Fail> {
+    fn serve<R: Wait>(
+        &mut self,
+        rt: &R,
+        params: &str,
+        counts_too: bool,
+        told: &mut String,
+    ) -> Result<(), Fail> {
         let request = reading::request(self.alloc, &self.schema, params)?;
         let door = self.door.as_mut().ok_or("no searcher")?;
-        let (served, counts) = door.serve(self.alloc, &request)?;
+        let (served, counts) = door.serve(rt, self.alloc, &request, &OpenGate, 1)?;
         serving::tell_served(self.alloc, &served, told)?;
         if counts_too {
             serving::tell_counts(self.alloc, counts, told)?;

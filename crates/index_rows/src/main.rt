@@ -22,7 +22,7 @@ fn main(rt: HostRuntime) -> Result<(), Fail> {
     writeln!(out, "{schema}")?;
     for row in lines {
         let row = row?;
-        let told = desk.take(row.as_str())?;
+        let told = desk.take(&rt, row.as_str())?;
         writeln!(out, "{row}{told}")?;
     }
     out.flush()?;

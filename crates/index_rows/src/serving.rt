@@ -6,12 +6,14 @@ use doc_sets::MAX_DOCS;
 use field_schema::{FieldList, Schema};
 use query_text::{Op, read_sort};
 use request_form::{Filter, Request};
+use rt_edge::OpenGate;
 use search_model::Note;
 use searcher_core::{CacheSizes, Served};
 use segment_postings::Counts;
 use served_index::Index;
 use sqlite_items::Items;
 use std::alloc::Global;
+use std::sync::Wait;
 use std::test::Fail;
 
 pub(crate) fn add(
@@ -54,7 +56,8 @@ pub(crate) fn searcher(alloc: Global, index: &Index, row: &str) -> Result<KeptDo
 
 // How many documents a new searcher finds, and those of a page. The row has the start, the rows and the sort, and behind a
 // bar each the query and its filters.
-pub(crate) fn tell_page(
+pub(crate) fn tell_page<R: Wait>(
+    rt: &R,
     alloc: Global,
     schema: &Schema,
     index: &Index,
@@ -69,7 +72,9 @@ pub(crate) fn tell_page(
         most_docs: 200,
     };
     let request = page_request(alloc, schema, row)?;
-    let (served, _) = KeptDoor::new(alloc, index.view(), sizes)?.serve(alloc, &request)?;
+    let (served, _) = KeptDoor::new(alloc, index.view(), sizes)?.serve(
+        rt, alloc, &request, &OpenGate, 1,
+    )?;
     told.push_str(format!(in alloc; " {}:", served.found)?.as_str())?;
     for doc in served.docs.as_slice() {
         tell_doc(alloc, schema, doc, told)?;
@@ -126,14 +131,20 @@ fn note_text(note: Note) -> &'static str {
     }
 }
 
-// Adds how many documents were found and those of the page; and what the caches did for the result, for the filters and
-// for the documents.
-pub(crate) fn tell_served(alloc: Global, served: &Served, told: &mut String) -> Result<(), Fail> {
+// Adds how many documents were found, and those of the page.
+fn tell_ids(alloc: Global, served: &Served, told: &mut String) -> Result<(), Fail> {
     told.push_str(format!(in alloc; " {}:", served.found)?.as_str())?;
     for doc in served.docs.as_slice() {
         told.push_str(" ")?;
         told.push_str(doc.id().get())?;
     }
+    Ok(())
+}
+
+// Adds how many documents were found and those of the page; and what the caches did for the result, for the filters and
+// for the documents.
+pub(crate) fn tell_served(alloc: Global, served: &Served, told: &mut String) -> Result<(), Fail> {
+    tell_ids(alloc, served, told)?;
     told.push_str("; ")?;
     told.push_str(note_text(served.result))?;
     told.push_str(" [")?;

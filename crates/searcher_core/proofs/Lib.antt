@@ -1,8 +1,10 @@
-pub mod Caching
+pub mod Calling
 pub mod Costs
+pub mod Dealing
 pub mod Finding
 pub mod Lefts
 pub mod Making
 pub mod Noting
 pub mod Pages
+pub mod Resting
 pub mod Turns

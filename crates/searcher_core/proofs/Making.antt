@@ -1,5 +1,11 @@
 -- A result that is made, and the key that it is kept under.
-use Rattle.std.proofs.Common.{◌≡◌, ℕ, ◌+◌, ◌∷◌, [], ◌++◌, List, map, length, Option, true, refl, sym, ap, subst, ◌∙◌}
+use Rattle.std.specs.Prelude.{Result, Ok, Err, IfOk, if◌then◌else◌}
+use Rattle.std.specs.Arc.{arc_value}
+use Rattle.std.specs.List.Sorted.{IsStrictlySortedBy}
+use Rattle.query_tree.specs.Order.{query_cmp}
+use Rattle.cache_traces.specs.declared.told.Told.TheVariants as told
+use Rattle.shared_cells.specs.Lists.{AsksFor}
+use Rattle.std.proofs.Common.{◌≡◌, ℕ, ◌+◌, ◌∷◌, [], ◌++◌, List, map, length, Bool, Option, true, false, refl, sym, ap, subst, ◌∙◌}
 use Rattle.std.specs.FinSet.{len}
 use Rattle.std.specs.List.{list_all}
 use Rattle.doc_sets.specs.Sets.{Numbers}
@@ -16,12 +22,17 @@ use Rattle.search_model.specs.Answer.{is_hit}
 use Rattle.segment_postings.specs.Numbered.{Numbered, IsNumbered, docs}
 use Rattle.sort_window.specs.First.{first_numbers, AreLive}
 use Rattle.search_model.specs.declared.notes.Note.{Note}
-use Rattle.search_model.specs.Noting.{AreNotes}
+use Rattle.search_model.specs.declared.notes.Note.TheVariants.{Hit, Joined}
+use Rattle.search_model.specs.Noting.{AreNotes, AreNotesAfter, IsNote}
+use Rattle.searcher_core.specs.declared.results.Given.{Given}
 use Rattle.segment_postings.specs.declared.posting.Counts.{Counts}
-use Rattle.searcher_core.specs.Evaluated.{AskInTurn, computed, evaluated, passes_too, while_some}
+use Rattle.searcher_core.specs.Evaluated.{AskInTurn, AsksAsNoted, ReadsValues, computed, evaluated, passes_too, while_some}
 use Rattle.searcher_core.specs.Noting.{may_cache}
-use Rattle.searcher_core.specs.Fits.{IsResult, set_of_key}
-use Rattle.searcher_core.specs.Meeting.{HasMet, IsCommonOf, IsEntryFor, IsMade, left_of, set_of}
+use Rattle.searcher_cells.specs.Sights.{Sight, ResultFits, set_of_key}
+use Rattle.searcher_core.specs.Meeting.{HasMet, IsCommonOf, IsEntryFor, IsGiven, IsMade, left_of}
+use Rattle.searcher_core.specs.RequestCalls.{FilterActs, FiltersAfter, IsKeyOf, IsCollected, ResultActs, ResultCall, need_of}
+use Rattle.searcher_core.specs.Windows.{IsFirstWindow, set_of}
+use Rattle.searcher_core.specs.declared.sizes.CacheSizes.{CacheSizes}
 use Rattle.searcher_core.specs.Searches.{IsByCost, cached, uncached, queries_of}
 use Rattle.searcher_core.proofs.Finding.{are_live}
 use Rattle.searcher_core.proofs.Lefts.{common_left, met_both}
@@ -91,23 +102,67 @@ entry_made v w r s e same is counts lists enough = record {
   enough = enough;
 }
 
+-- the entry lists the first window of what the request finds
+pub collected_made : (v w : Numbered) (sizes : CacheSizes) (r : Request) (s : Numbers) (e : Entry) → w ≡ v → s ≡ set_of v r → e.found ≡ len s → IsFirstWindow r sizes.window s w e.ids
+    → IsCollected v sizes r e
+collected_made v w sizes r s e same is counts lists = record {
+  counts = counts ∙ ap len is;
+  window = (lists.0, lists.1, lists.2 ∙ (λ i. first_numbers lists.0 r.sort (is i) (same i)));
+}
+
 -- ---- the key
 
-module _ (v : Numbered) (r : Request) (key : ResultKey) (q_is : key.q ≡ r.q) (filters_are : HasFilters key (queries_of r.filters)) (sort_is : key.sort ≡ r.sort) where
-  key_set : set_of_key v key ≡ set_of v r
-  key_set = found_alike (is_hit key.q key.filters) (is_hit r.q (queries_of r.filters)) v (λ d. key_hits key r.q (queries_of r.filters) d q_is filters_are)
+pub key_made : {E : Type 0} (r : Request) (made : Result ResultKey E) → IfOk made (λ k. k.q ≡ r.q) → IfOk made (λ k. IsStrictlySortedBy query_cmp k.filters)
+    → IfOk made (λ k. HasFilters k (queries_of r.filters)) → IfOk made (λ k. k.sort ≡ r.sort) → IfOk made (IsKeyOf r)
+key_made r (Ok k) query ascending filters sort = record { query = query; filters = filters; ascending = ascending; sort = sort }
+key_made r (Err e) query ascending filters sort = tt
+
+module _ (v : Numbered) (w : Sight) (r : Request) (key : ResultKey) (same : w.view ≡ v) (of_request : IsKeyOf r key) where
+  key_set : set_of_key w.view key ≡ set_of v r
+  key_set =
+      ap (λ x. set_of_key x key) same
+      ∙ found_alike (is_hit key.q key.filters) (is_hit r.q (queries_of r.filters)) v (λ d. key_hits key r.q (queries_of r.filters) d of_request.query of_request.filters)
 
   -- an entry that is kept under it is one for the request
-  pub entry_of_key : (e : Entry) → IsResult v key e → serves (r.start + r.rows) e ≡ true → IsEntryFor v r e
+  pub entry_of_key : (e : Entry) → ResultFits w key e → serves (r.start + r.rows) e ≡ true → IsEntryFor v r e
   entry_of_key e is enough = record {
     counts = is.counts ∙ ap len key_set;
-    lists = is.lists ∙ (λ i. first_numbers (length e.ids) (sort_is i) (key_set i) v);
+    lists = is.lists ∙ (λ i. first_numbers (length e.ids) (of_request.sort i) (key_set i) (same i));
     enough = enough;
   }
 
   -- and one for the request may be kept under it
-  pub key_of_entry : (e : Entry) → IsEntryFor v r e → IsResult v key e
+  pub key_of_entry : (e : Entry) → IsEntryFor v r e → ResultFits w key e
   key_of_entry e is = record {
     counts = is.counts ∙ sym (ap len key_set);
-    lists = is.lists ∙ (λ i. first_numbers (length e.ids) (sym sort_is i) (sym key_set i) v);
+    lists = is.lists ∙ (λ i. first_numbers (length e.ids) (sym of_request.sort i) (sym key_set i) (sym same i));
+  }
+
+-- ---- a hit, asked again after Join or not
+
+pub hit_call : (v : Numbered) (sizes : CacheSizes) (r : Request) (key : ResultKey) (again : Bool) (n : Note) (old new : ResultActs) → n ≡ (if again then Joined else Hit) → IsKeyOf r key
+    → AsksFor key (need_of r) again told.Hit old new → ResultCall v sizes r n old new
+hit_call v sizes r key true n old new is of asks = subst (λ m. ResultCall v sizes r m old new) (sym is) (key, of, asks)
+hit_call v sizes r key false n old new is of asks = subst (λ m. ResultCall v sizes r m old new) (sym is) (key, of, asks)
+
+pub hit_filters : (v : Numbered) (r : Request) (again : Bool) (n : Note) (ns : List Note) (old new : FilterActs) → n ≡ (if again then Joined else Hit) → new ≡ old → FiltersAfter v r n ns old new
+hit_filters v r true n ns old new is same = subst (λ m. FiltersAfter v r m ns old new) (sym is) same
+hit_filters v r false n ns old new is same = subst (λ m. FiltersAfter v r m ns old new) (sym is) same
+
+module _ (v : Numbered) (r : Request) (before after : Counts) (g : Given) (entry : IsEntryFor v r (arc_value g.entry)) (may : r.q_cached ≡ true) (none : g.filters.items ≡ [])
+    (asks : after.postings ≡ before.postings) (values : after.values ≡ before.values) where
+  pub given_hit : (again : Bool) → g.result ≡ (if again then Joined else Hit) → IsGiven v r before after g
+  given_hit true is = record {
+    entry_is = entry;
+    result_is = subst (λ b. IsNote b g.result) (sym may) (subst (IsNote true) (sym is) tt);
+    notes_are = subst (λ n. AreNotesAfter n (may_cache r.filters) g.filters.items) (sym is) none;
+    asks = subst (λ n. AsksAsNoted v r n g.filters.items before.postings after.postings) (sym is) asks;
+    values = subst (λ n. ReadsValues n before.values after.values) (sym is) values;
+  }
+  given_hit false is = record {
+    entry_is = entry;
+    result_is = subst (λ b. IsNote b g.result) (sym may) (subst (IsNote true) (sym is) tt);
+    notes_are = subst (λ n. AreNotesAfter n (may_cache r.filters) g.filters.items) (sym is) none;
+    asks = subst (λ n. AsksAsNoted v r n g.filters.items before.postings after.postings) (sym is) asks;
+    values = subst (λ n. ReadsValues n before.values after.values) (sym is) values;
   }

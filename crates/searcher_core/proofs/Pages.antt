@@ -1,5 +1,7 @@
 -- The page of an entry, and its documents one after another.
-use Rattle.std.proofs.Common.{◌≡◌, ℕ, zero, suc, ◌+◌, ◌-◌, ◌≤◌, ◌<◌, Bool, true, false, ◌||◌, List, [], ◌∷◌, length, map, take, drop, nat_le, nat_eq, refl, sym, ap, subst, ◌∙◌, arith, All}
+use Rattle.std.specs.Prelude.{if◌then◌else◌}
+use Rattle.segment_postings.specs.Terms.{raised}
+use Rattle.std.proofs.Common.{◌≡◌, ℕ, zero, suc, ◌+◌, ◌-◌, ◌≤◌, ◌<◌, Bool, true, false, cond, ◌||◌, List, [], ◌∷◌, length, map, take, drop, nat_le, nat_eq, refl, sym, ap, subst, ◌∙◌, arith, All}
 use Rattle.std.proofs.lemmas.Bool.Decides.{nat_tests}
 use Rattle.std.proofs.Common.{eq-eqb}
 use Rattle.std.proofs.lemmas.List.Sorted.{length_permutation}
@@ -18,7 +20,8 @@ use Rattle.sort_order.proofs.Placing.{sorted-same}
 use Rattle.sort_window.specs.First.{AreLive, among, first_numbers}
 use Rattle.sort_window.proofs.Among.{length-among}
 use Rattle.searcher_core.specs.Evaluated.{raised_by}
-use Rattle.searcher_core.specs.Meeting.{IsEntryFor, docs_at, set_of}
+use Rattle.searcher_core.specs.Meeting.{IsEntryFor, docs_at}
+use Rattle.searcher_core.specs.Windows.{set_of}
 use Rattle.searcher_core.specs.Searches.{hits_of, queries_of}
 use Rattle.searcher_core.proofs.Finding.{len_is, ordered_count, page_is, page_live}
 
@@ -84,6 +87,14 @@ pub raised_step : (i hits hit count : ℕ) → hits ≤ i → hit ≤ 1 → rais
 raised_step i hits zero count l m = (let same : suc (i - hits) ≡ i + 1 - (hits + 0) = omega (arith, l) in ap (λ n. raised_by n count) same)
 raised_step i hits (suc zero) count l m = (let same : i - hits ≡ i + 1 - (hits + 1) = omega (arith, l) in ap (λ n. raised_by n count) same)
 raised_step i hits (suc (suc n)) count l m = absurd (omega (arith, m))
+
+pub at_most_one : (b : Bool) → cond b 1 0 ≤ 1
+at_most_one true = omega arith
+at_most_one false = omega arith
+
+pub by_hit : (b : Bool) (count : ℕ) → (if b then count else raised count) ≡ raised_by (1 - cond b 1 0) count
+by_hit true count = refl
+by_hit false count = refl
 
 -- ---- enough for the page
 

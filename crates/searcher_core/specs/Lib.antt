@@ -1,6 +1,11 @@
+pub mod Doors
 pub mod Evaluated
-pub mod Fits
 pub mod Meeting
 pub mod Noting
+pub mod RequestCalls
+pub mod Resting
 pub mod Searches
+pub mod Seating
+pub mod Serving
 pub mod Shows
+pub mod Windows

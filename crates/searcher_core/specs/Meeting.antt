@@ -12,17 +12,15 @@ use Rattle.query_tree.specs.declared.query.Query.{Query}
 use Rattle.request_form.specs.declared.request.Request.{Request}
 use Rattle.result_cache.specs.declared.entry.Entry.{Entry}
 use Rattle.result_cache.specs.Entries.{serves}
-use Rattle.search_model.specs.Answer.{is_hit}
 use Rattle.search_model.specs.declared.notes.Note.{Note}
 use Rattle.segment_postings.specs.declared.posting.Counts.{Counts}
 use Rattle.segment_postings.specs.Numbered.{Numbered, docs, doc_at, numbers}
 use Rattle.sort_window.specs.First.{first_numbers}
-use Rattle.sort_window.specs.Windows.{IsWindow}
 use Rattle.searcher_core.specs.declared.results.Given.{Given}
 use Rattle.searcher_core.specs.Evaluated.{AskInTurn, AsksAsNoted, EvaluatesAsNoted, ReadsValues, passes_too, while_some}
 use Rattle.search_model.specs.Noting.{AreNotes, AreNotesAfter, IsNote}
 use Rattle.searcher_core.specs.Noting.{may_cache}
-use Rattle.searcher_core.specs.Searches.{queries_of}
+use Rattle.searcher_core.specs.Windows.{set_of}
 
 -- what the sets have in common, if there are sets
 abbrev pub IsCommonOf : List Numbers → Option Numbers → Type 0
@@ -39,19 +37,11 @@ pub record HasMet (v : Numbered) (qs : List Query) (left met : Numbers) (before 
   pub found_is : (p : Document → Bool) → left ≡ found p v → met ≡ found (passes_too p qs) v
   pub asked : (p : Document → Bool) → left ≡ found p v → AskInTurn (while_some (docs v) p qs) before after
 
--- the documents that a request finds
-abbrev pub set_of : Numbered → Request → Numbers
-set_of v r = found (is_hit r.q (queries_of r.filters)) v
-
 -- the entry counts them, and lists the first of them: enough for the page, or all
 pub record IsEntryFor (v : Numbered) (r : Request) (e : Entry) : Type 0 where
   pub counts : e.found ≡ len (set_of v r)
   pub lists : e.ids ≡ first_numbers (length e.ids) r.sort (set_of v r) v
   pub enough : serves (r.start + r.rows) e ≡ true
-
--- the ids are the first of a set in order, as many as the window of the request's page
-abbrev pub IsFirstWindow : Request → ℕ → Numbers → Numbered → List ℕ → Type 0
-IsFirstWindow r size set v ids = (n : ℕ) × IsWindow r.start r.rows size n × (ids ≡ first_numbers n r.sort set v)
 
 -- the documents of numbers
 abbrev pub docs_at : Numbered → List ℕ → List Document

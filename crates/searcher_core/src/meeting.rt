@@ -8,7 +8,8 @@ ghost use Rattle.query_eval.specs.Kept.{Kept};
 ghost use Rattle.result_cache.specs.Entries.{serves};
 ghost use Rattle.segment_postings.specs.Numbered.{numbers};
 ghost use Rattle.sort_window.specs.First.{AreLive, first_numbers};
-ghost use Rattle.searcher_core.specs.Meeting.{HasMet, IsCommonOf, IsFirstWindow, left_of};
+ghost use Rattle.searcher_core.specs.Meeting.{HasMet, IsCommonOf, left_of};
+ghost use Rattle.searcher_core.specs.Windows.{IsFirstWindow};
 ghost use Rattle.searcher_core.specs.Searches.{IsByCost, queries_of, uncached};
 
 use doc_sets::DocSet;

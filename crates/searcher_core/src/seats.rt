@@ -1,29 +1,22 @@
-use crate::searcher::Searcher;
-use document_cache::DocCells;
-use filter_cache::FilterCells;
-use result_cache::ResultCells;
-use std::marker::Model;
-use std::snapshot::Snapshot;
+ghost use Rattle.view_cells.specs.Seats.{IsIdle};
+ghost use Rattle.searcher_core.specs.Resting.{IsAtRest};
 
-/// A caller's seats at the three caches of a searcher. Contracts see what that searcher shows: its view and its sizes.
+use searcher_cells::{DocumentValue, FilterSet, ResultEntry};
+use shared_cells::{Cell, StoreCell};
+use view_cells::Seat;
+
+/// A caller's seats at the three caches of a searcher, which the seats of other callers share.
 ///
-/// Whatever the caches keep fits that view, and between two calls no seat owns a key.
+/// Between two calls they hold nothing, and own no key that others could wait for.
 #[derive(Drop)]
 pub struct Seats {
-    pub(crate) filters: FilterCells,
-    pub(crate) results: ResultCells,
-    pub(crate) documents: DocCells,
-    // The searcher, as contracts see it.
-    pub(crate) of: Snapshot<Searcher>,
-}
-
-impl Model for Seats {
-    ghost use Rattle.searcher_core.specs.Fits.{SeatsFit};
-    ghost use Rattle.searcher_core.specs.Shows.{Shows};
-
-    ghost Value = { Shows };
-
-    ghost view = { λ s. s.of.value };
-
-    ghost invariant = { λ s. SeatsFit s.of.value s.filters s.results s.documents };
+    /// At the sets of filters.
+    pub filters: Seat<Cell<FilterSet>>,
+    /// At the results.
+    pub results: Seat<Cell<ResultEntry>>,
+    /// At the documents.
+    pub documents: Seat<StoreCell<DocumentValue>>,
+    ghost filters_rest: { IsAtRest filters },
+    ghost results_rest: { IsAtRest results },
+    ghost documents_rest: { IsIdle documents },
 }

@@ -1,4 +1,4 @@
-use Rattle.std.proofs.Common.{◌≡◌, ◌++◌, ◌∷◌, [], ◌+◌, List, map, take, sym, ap, subst, ◌∙◌}
+use Rattle.std.proofs.Common.{◌≡◌, ◌++◌, ◌∷◌, [], ◌+◌, List, map, take, refl, sym, ap, subst, ◌∙◌}
 use Rattle.std.specs.Arc.{arc_value}
 use Rattle.std.proofs.lemmas.List.{map-append, take_more}
 use Rattle.std.proofs.lemmas.List.Elements.{filter-append}
@@ -8,7 +8,10 @@ use Rattle.request_form.specs.declared.request.Filter.{Filter}
 use Rattle.search_model.specs.declared.notes.Note.{Note}
 use Rattle.search_model.specs.Noting.{AreNotes}
 use Rattle.searcher_core.specs.Evaluated.{AskInTurn, computed}
-use Rattle.searcher_core.specs.Fits.{FiltersFit}
+use Rattle.view_cells.specs.Seats.{own_list}
+use Rattle.searcher_core.specs.RequestCalls.{FiltersCalls, FilterCall, RefusedFilters}
+use Rattle.searcher_core.proofs.Calling.{calls_more, had_at, none_refused, refused_at}
+use Rattle.searcher_cells.proofs.Owning.{on_err}
 use Rattle.searcher_core.specs.Noting.{may_cache}
 use Rattle.searcher_core.specs.Searches.{cached, queries_of}
 use Rattle.searcher_core.proofs.Noting.{asked_more, may_more, notes_more}
@@ -25,11 +28,24 @@ loop-filter-preserved g c =
     let before = (g.P.Reads.counted c.args.probe.now).postings in
     let after = (g.P.Reads.counted c.noted.new.probe).postings in
     let now = c.in_ok-note.ensures in
+    let so = c.loop-filter.invariant in
     let notes : c.push.new.self.items ≡ c.loop-filter.notes.items ++ c.in_ok-note.note ∷ [] = c.in_ok-push.ensures.items in
     record {
-      fits =
-          subst (λ n. FiltersFit v n c.noted.new.cells) c.loop-filter.invariant.fits.kept.size_is
-          (subst (λ w. FiltersFit w c.loop-filter.cells.kept.size c.noted.new.cells) kept.view now.fits);
+      back = record {
+        seat = record {
+          table = now.back.seat.table ∙ so.back.seat.table;
+          view = now.back.seat.view ∙ so.back.seat.view;
+          count = now.back.seat.count ∙ so.back.seat.count;
+          number = now.back.seat.number ∙ so.back.seat.number;
+        };
+        idle = now.back.idle;
+      };
+      owns = now.owns;
+      list =
+          subst (λ xs. FiltersCalls v xs c.push.new.self.items (own_list c.args.seat.now) (own_list c.noted.new.seat)) (sym more)
+          (subst (λ ns. FiltersCalls v (fs ++ f ∷ []) ns (own_list c.args.seat.now) (own_list c.noted.new.seat)) (sym notes)
+          (calls_more v fs c.loop-filter.notes.items f c.in_ok-note.note (own_list c.args.seat.now) (own_list c.loop-filter.seat) (own_list c.noted.new.seat)
+          so.list (subst (λ w. FilterCall w f c.in_ok-note.note (own_list c.loop-filter.seat) (own_list c.noted.new.seat)) kept.view now.list)));
       kept = record {
         view = now.kept.view ∙ kept.view;
         terms = now.kept.terms ∙ kept.terms;
@@ -52,3 +68,25 @@ loop-filter-preserved g c =
           (asked_more fs c.loop-filter.notes.items f c.in_ok-note.note before (g.P.Reads.counted c.loop-filter.probe).postings after
           c.loop-filter.invariant.notes c.loop-filter.invariant.asked now.asked));
     }
+
+pub returns-in_err-notes-clause-no_memory : goal.returns-in_err-notes-clause-no_memory
+returns-in_err-notes-clause-no_memory g c =
+    on_err c.from_residual.result (none_refused (g.P.Reads.view c.args.probe.now) c.args.filters.now (own_list c.args.seat.now) (own_list c.args.seat.now) refl)
+
+pub returns-in_err-note-clause-no_memory : goal.returns-in_err-note-clause-no_memory
+returns-in_err-note-clause-no_memory g c =
+    let so = c.loop-filter.invariant in
+    let f : Filter = c.filter-item.result in
+    on_err c.from_residual-in_err-note.result
+    (refused_at (g.P.Reads.view c.args.probe.now) c.args.filters.now c.loop-filter.filter-index f c.loop-filter.notes.items (own_list c.args.seat.now) (own_list c.loop-filter.seat) (own_list c.noted.new.seat)
+    c.loop-filter-test.true c.filter-item.is so.notes so.list
+    (subst (λ w. RefusedFilters w (f ∷ []) (own_list c.loop-filter.seat) (own_list c.noted.new.seat)) so.kept.view c.in_err-note.ensures.no_memory))
+
+pub returns-in_err-push-clause-no_memory : goal.returns-in_err-push-clause-no_memory
+returns-in_err-push-clause-no_memory g c =
+    let so = c.loop-filter.invariant in
+    let f : Filter = c.filter-item.result in
+    on_err c.from_residual-in_err-push.result
+    (had_at (g.P.Reads.view c.args.probe.now) c.args.filters.now c.loop-filter.filter-index f c.in_ok-note.note c.loop-filter.notes.items (own_list c.args.seat.now) (own_list c.loop-filter.seat)
+    (own_list c.noted.new.seat) c.loop-filter-test.true c.filter-item.is so.notes so.list c.in_ok-note.ensures.note
+    (subst (λ w. FilterCall w f c.in_ok-note.note (own_list c.loop-filter.seat) (own_list c.noted.new.seat)) so.kept.view c.in_ok-note.ensures.list))

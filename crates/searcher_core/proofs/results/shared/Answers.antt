@@ -1,0 +1,16 @@
+use Rattle.view_cells.specs.Seats.{own_list}
+use Rattle.searcher_cells.proofs.Owning.{on_err}
+use Rattle.searcher_core.proofs.Calling.{all_refused}
+use Rattle.searcher_core.proofs.results.shared.Goals as goal
+
+pub returns-in_err-entry-2-clause-no_memory : goal.returns-in_err-entry-2-clause-no_memory
+returns-in_err-entry-2-clause-no_memory g c =
+    on_err c.from_residual-in_err-entry-2.result
+    (all_refused (g.P.Reads.view c.args.probe.now) c.args.request.now.filters c.in_ok-entry.notes.items (own_list c.args.filters.now) (own_list c.made.new.filters)
+    c.in_ok-entry.ensures.made.notes_are c.in_ok-entry.ensures.list)
+
+pub returns-in_err-clone-clause-no_memory : goal.returns-in_err-clone-clause-no_memory
+returns-in_err-clone-clause-no_memory g c =
+    on_err c.from_residual-in_err-clone.result
+    (all_refused (g.P.Reads.view c.args.probe.now) c.args.request.now.filters c.in_ok-entry.notes.items (own_list c.args.filters.now) (own_list c.made.new.filters)
+    c.in_ok-entry.ensures.made.notes_are c.in_ok-entry.ensures.list)
