@@ -1,0 +1,6 @@
+pub mod Counting
+pub mod Doors
+pub mod Hearing
+pub mod Listing
+pub mod PastCaches
+pub mod Turning
