@@ -20,11 +20,16 @@ use rt_edge::Gate;
 use script_form::{Config, Line, Script, What};
 use searcher_core::CacheSizes;
 use std::alloc::Global;
+use std::sync::Wait;
+
+// The caller that serves the first searcher's listeners: the first behind the clients.
+const FIRST_WARMER: u32 = 13;
 
 impl Runner {
     // Serves the request of a line in its turn, if the line asks for something.
-    fn step<G: Gate>(
+    fn step<R: Wait, G: Gate>(
         &mut self,
+        rt: &R,
         alloc: Global,
         config: &Config,
         gate: &G,
@@ -49,7 +54,7 @@ impl Runner {
             line: line.number,
             verb,
         };
-        self.serve(alloc, config, gate, head, body.get())
+        self.serve(rt, alloc, config, gate, head, body.get())
     }
 
     // What the run gives: its rows in the order of the script, and its searchers.
@@ -96,14 +101,16 @@ fn is_acquired_first(config: &Config) -> bool
 
 /// Runs the script: phase by phase, the clients of a phase one after another by number, each client's lines in turn.
 ///
-/// Each searcher is warmed and registered in the commit that opens it. Where the first searcher serves before its
+/// Each searcher is warmed from the caches of the one before it, serves the requests of `newSearcher`, and is registered, in the
+/// commit that opens it. The first one serves the requests of `firstSearcher` before the first line. Where it serves before its
 /// listeners have run (`useColdSearcher`) and there are some, its first ticket is theirs. Where memory is wanting for a request, it has
 /// the 500 reply, takes no place, and all else stands as before; `NoMemory` comes where not even that reply could be
 /// had. The gate is told of the moments of the queries' look-ups. It costs, for each add and each delete by unique key, the postings of that key and a look among the pending
 /// documents; for each commit a pass over what was added, a sort of its keys, a step for each 64 documents, and now
 /// and then the merge of segments; for each query and each delete by query its evaluation; and a sort of the rows by
 /// line.
-pub fn run_script<G: Gate>(
+pub fn run_script<R: Wait, G: Gate>(
+    rt: &R,
     alloc: Global,
     config: &Config,
     script: &Script,
@@ -122,9 +129,11 @@ pub fn run_script<G: Gate>(
     let listened = is_acquired_first(config);
     let key = config.schema.key_field();
     let mut runner = Runner::new(alloc, key, sizes_of(config), listened)?;
+    let first = config.first.as_slice();
+    runner.index.listen(rt, alloc, first, gate, FIRST_WARMER);
     for turn in &turns {
         let line = &script.get()[turn.index as usize];
-        runner.step(alloc, config, gate, turn.phase, line)?;
+        runner.step(rt, alloc, config, gate, turn.phase, line)?;
     }
     runner.finish()
 }

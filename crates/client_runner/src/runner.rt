@@ -13,9 +13,12 @@ use crate::serving::Serving;
 use doc_model::Doc;
 use field_schema::{FieldNo, NoMemory, Text};
 use request_form::DeleteForm;
+use rt_edge::Gate;
+use script_form::Config;
 use search_model::{Note, Notes};
 use searcher_core::CacheSizes;
 use std::alloc::Global;
+use std::sync::Wait;
 
 // A request as its line names it.
 #[derive(Clone, Copy)]
@@ -145,7 +148,14 @@ impl Runner {
 
     // Opens the next searcher on the documents as they stand, warms it from the current one and registers it; gives the
     // place of the opening. After want of memory all stands as before.
-    pub(crate) fn open(&mut self, alloc: Global) -> Result<u64, NoMemory>
+    pub(crate) fn open<R: Wait, G: Gate>(
+        &mut self,
+        rt: &R,
+        alloc: Global,
+        config: &Config,
+        gate: &G,
+        client: u32,
+    ) -> Result<u64, NoMemory>
         requires { HasRoom 1 self.old }
         ensures place { IfOk result (λ place. place ≡ self.old.place) }
         ensures ok { OnOk result (standing self.new ≡ opened (standing self.old)) }
@@ -156,7 +166,7 @@ impl Runner {
         let ticket = last.acquired;
         last.acquired += 1;
         self.earlier.reserve(1)?;
-        self.index.open(alloc)?;
+        self.index.open(rt, alloc, config, gate, client)?;
         self.earlier.push(last)?;
         let place = self.place;
         self.current = SearcherRow {

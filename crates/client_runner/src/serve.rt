@@ -23,6 +23,7 @@ use rt_edge::Gate;
 use script_form::Config;
 use sqlite_items::Items;
 use std::alloc::Global;
+use std::sync::Wait;
 
 // The reply to an answer without documents, for which no cache was asked.
 fn bare_reply(alloc: Global, config: &Config, answer: &Answer, code: u32) -> Result<Reply, NoMemory>
@@ -91,7 +92,8 @@ fn refused_row(
 }
 
 // The reply of a request, from the caches of the current searcher where these have what it asks for.
-fn found_reply<G: Gate>(
+fn found_reply<R: Wait, G: Gate>(
+    rt: &R,
     alloc: Global,
     config: &Config,
     index: &mut Serving,
@@ -103,7 +105,7 @@ fn found_reply<G: Gate>(
     ensures notes { IfOk result (λ r. IsNotedBy request.now r.docs (noted_in r)) }
     ensures stays { index.new ≡ index.old }
 {
-    let served = index.serve(alloc, request, gate, client)?;
+    let served = index.serve(rt, alloc, request, gate, client)?;
     let docs = served.docs.len() as u32;
     let answer = Answer::Found {
         found: served.found,
@@ -134,8 +136,9 @@ pub fn defaults(config: &Config) -> Defaults
 impl Runner {
     // Serves a request in its turn. Where memory is wanting for it, it has the 500 reply and all else stands as before;
     // an error is that not even that reply could be had.
-    pub(crate) fn serve<G: Gate>(
+    pub(crate) fn serve<R: Wait, G: Gate>(
         &mut self,
+        rt: &R,
         alloc: Global,
         config: &Config,
         gate: &G,
@@ -148,7 +151,7 @@ impl Runner {
         ensures ready { OnOk result (StaysReady self.old self.new) }
     {
         self.rows.reserve(1)?;
-        let row = match self.answer(alloc, config, gate, head, body) {
+        let row = match self.answer(rt, alloc, config, gate, head, body) {
             Ok(row) => row,
             Err(NoMemory) => head.row(None, None, None, no_memory_reply(alloc, config)?),
         };
@@ -157,8 +160,9 @@ impl Runner {
     }
 
     // Does what a request asks for, and gives its row. After want of memory all stands as before.
-    fn answer<G: Gate>(
+    fn answer<R: Wait, G: Gate>(
         &mut self,
+        rt: &R,
         alloc: Global,
         config: &Config,
         gate: &G,
@@ -174,8 +178,8 @@ impl Runner {
         match head.verb {
             Verb::Add => self.update(alloc, config, head, body),
             Verb::Delete => self.delete(alloc, config, head, body),
-            Verb::Query => self.query(alloc, config, gate, head, body),
-            Verb::Commit => self.commit(alloc, config, head, body),
+            Verb::Query => self.query(rt, alloc, config, gate, head, body),
+            Verb::Commit => self.commit(rt, alloc, config, gate, head, body),
         }
     }
 
@@ -228,8 +232,9 @@ impl Runner {
     }
 
     // Answers a query on what the current searcher sees, or refuses it with its first fault.
-    fn query<G: Gate>(
+    fn query<R: Wait, G: Gate>(
         &mut self,
+        rt: &R,
         alloc: Global,
         config: &Config,
         gate: &G,
@@ -246,17 +251,20 @@ impl Runner {
             Ok(request) => request,
             Err(fault) => return refused_row(alloc, config, head, fault),
         };
-        let reply = found_reply(alloc, config, &mut self.index, &request, gate, head.client)?;
+        let index = &mut self.index;
+        let reply = found_reply(rt, alloc, config, index, &request, gate, head.client)?;
         let generation = self.current.generation;
         let ticket = self.acquire();
         Ok(head.row(None, Some(generation), Some(ticket), reply))
     }
 
     // Opens a searcher for a commit, or takes a place where it opens none; or refuses it with its first fault.
-    fn commit(
+    fn commit<R: Wait, G: Gate>(
         &mut self,
+        rt: &R,
         alloc: Global,
         config: &Config,
+        gate: &G,
         head: Head,
         body: &str,
     ) -> Result<RequestRow, NoMemory>
@@ -277,7 +285,7 @@ impl Runner {
             return Ok(head.row(Some(place), None, None, reply));
         }
         let generation = self.current.generation + 1;
-        let place = self.open(alloc)?;
+        let place = self.open(rt, alloc, config, gate, head.client)?;
         Ok(head.row(Some(place), Some(generation), None, reply))
     }
 }

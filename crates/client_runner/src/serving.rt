@@ -8,18 +8,23 @@ ghost use Rattle.search_model.specs.Live.{added, after, deleted_id, deleted_quer
 ghost use Rattle.searcher_core.specs.Noting.{IsNoted};
 ghost use Rattle.searcher_core.specs.Searches.{queries_of};
 ghost use Rattle.searcher_core.specs.Shows.{AreSizes};
+ghost use Rattle.segment_postings.specs.Numbered.{docs};
+ghost use Rattle.client_runner.specs.Doors.{IsDoorTo, IsOnlyDoor, IsSameDoor};
+ghost use Rattle.client_runner.specs.Warmings.{IsWarmedBy, count_of, plan_of};
 
+use autowarm::{WarmCount, WarmPlan, listen, warm};
 use doc_model::Doc;
 use field_schema::{FieldNo, NoMemory};
 use query_tree::Query;
 use request_form::Request;
 use rt_edge::Gate;
+use script_form::{Config, WarmSetting};
 use searcher_core::{CacheSizes, Door, Searcher, Served, serve};
-use segment_postings::Probe;
+use segment_postings::{Probe, View};
 use served_index::Index;
 use std::alloc::Global;
 use std::marker::Model;
-use std::sync::Arc;
+use std::sync::{Arc, Wait};
 
 // The index, and a door to the searcher that sees its current view. Contracts see the index.
 #[derive(Drop)]
@@ -50,7 +55,7 @@ impl Serving {
     {
         let index = Index::new(alloc, key)?;
         let view = Arc::clone(index.view())?;
-        let door = Searcher::new(alloc, view, sizes)?;
+        let door = door_to(alloc, view, sizes)?;
         Ok(Serving { index, door })
     }
 
@@ -89,8 +94,16 @@ impl Serving {
         self.index.delete_query(alloc, query)
     }
 
-    // Opens a searcher of the same sizes on the documents as they stand, whose caches keep nothing yet.
-    pub(crate) fn open(&mut self, alloc: Global) -> Result<(), NoMemory>
+    // Opens a searcher of the same sizes on the documents as they stand. It is warmed from the caches of the one before
+    // it and serves its listeners, and is then the one that serves.
+    pub(crate) fn open<R: Wait, G: Gate>(
+        &mut self,
+        rt: &R,
+        alloc: Global,
+        config: &Config,
+        gate: &G,
+        client: u32,
+    ) -> Result<(), NoMemory>
         ensures ok { OnOk result (self.new.served ≡ self.old.docs) }
         ensures err { OnErr result (self.new.served ≡ self.old.served) }
         ensures docs { self.new.docs ≡ self.old.docs }
@@ -98,16 +111,35 @@ impl Serving {
         ensures key { self.new.key ≡ self.old.key }
     {
         let view = self.index.next_view(alloc)?;
-        let sizes = self.door.searcher.sizes();
-        let door = Searcher::new(alloc, Arc::clone(&view)?, sizes)?;
+        let seen = Arc::clone(&view)?;
+        let door = warmed(rt, alloc, &mut self.door, seen, config, gate, client)?;
         self.index.go_on(alloc, view);
         self.door = door;
         Ok(())
     }
 
-    // Serves a request from the current searcher.
-    pub(crate) fn serve<G: Gate>(
+    // Has the current searcher serve its listeners' requests.
+    pub(crate) fn listen<R: Wait, G: Gate>(
         &mut self,
+        rt: &R,
+        alloc: Global,
+        requests: &[Request],
+        gate: &G,
+        caller: u32,
+    )
+        ensures { self.new ≡ self.old }
+    {
+        let Door { searcher, seats } = &mut self.door;
+        let mut probe = Probe::new(searcher.view());
+        listen(
+            rt, alloc, searcher, seats, requests, &mut probe, gate, caller,
+        );
+    }
+
+    // Serves a request from the current searcher.
+    pub(crate) fn serve<R: Wait, G: Gate>(
+        &mut self,
+        rt: &R,
         alloc: Global,
         request: &Request,
         gate: &G,
@@ -123,6 +155,75 @@ impl Serving {
     {
         let Door { searcher, seats } = &mut self.door;
         let mut probe = Probe::new(searcher.view());
-        serve(alloc, searcher, seats, request, &mut probe, gate, client)
+        serve(
+            rt, alloc, searcher, seats, request, &mut probe, gate, client,
+        )
+    }
+}
+
+// A door to a new searcher of this view, whose caches keep nothing yet.
+fn door_to(alloc: Global, view: Arc<View>, sizes: CacheSizes) -> Result<Door, NoMemory>
+    requires { AreSizes sizes }
+    ensures { IfOk result (IsOnlyDoor (arc_value view).seen sizes) }
+{
+    let doors = Searcher::new(alloc, view, sizes, 1)?;
+    let Some(door) = doors.into_iter().next() else {
+        unreachable!()
+    };
+    Ok(door)
+}
+
+// A door to a new searcher of this view, of the sizes of an old one. It was warmed from the old one's caches, and then
+// served its listeners.
+fn warmed<R: Wait, G: Gate>(
+    rt: &R,
+    alloc: Global,
+    old: &mut Door,
+    view: Arc<View>,
+    config: &Config,
+    gate: &G,
+    caller: u32,
+) -> Result<Door, NoMemory>
+    ensures old { IsSameDoor old.old old.new }
+    ensures door { IfOk result (IsDoorTo (docs (arc_value view).seen)) }
+    ensures warmed { IfOk result (IsWarmedBy config.now old.old.seats old.new.seats) }
+{
+    let mut door = door_to(alloc, view, old.searcher.sizes())?;
+    let Door { searcher, seats } = &mut door;
+    let mut probe = Probe::new(searcher.view());
+    let plan = plan_of(config);
+    warm(
+        rt,
+        alloc,
+        &mut old.seats,
+        searcher,
+        seats,
+        &plan,
+        &mut probe,
+    );
+    let requests = config.fresh.as_slice();
+    listen(
+        rt, alloc, searcher, seats, requests, &mut probe, gate, caller,
+    );
+    Ok(door)
+}
+
+// How many entries of each cache are regenerated in a new searcher.
+fn plan_of(config: &Config) -> WarmPlan
+    ensures { result ≡ plan_of config.now }
+{
+    WarmPlan {
+        filters: count_of(config.filter_warm),
+        results: count_of(config.result_warm),
+    }
+}
+
+fn count_of(setting: WarmSetting) -> WarmCount
+    ensures { result ≡ count_of setting }
+{
+    if setting.percent {
+        WarmCount::Percent(setting.number)
+    } else {
+        WarmCount::Count(setting.number)
     }
 }

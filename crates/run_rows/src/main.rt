@@ -16,7 +16,7 @@ fn main(rt: HostRuntime) -> io::Result<()> {
         let Some((command, input)) = row.split_once('\n') else {
             continue;
         };
-        match told(alloc, command, input) {
+        match told(&rt, alloc, command, input) {
             Ok(text) => {
                 let text = text.get();
                 print!(rt; "==== {command}\n{text}")?;

@@ -12,15 +12,21 @@ use script_form::{
 };
 use script_maker::make;
 use std::alloc::Global;
+use std::sync::Wait;
 
 // What a command gives of an input, or why it is refused, as a line.
-pub(crate) fn told(alloc: Global, command: &str, input: &str) -> Result<Text, NoMemory> {
+pub(crate) fn told<R: Wait>(
+    rt: &R,
+    alloc: Global,
+    command: &str,
+    input: &str,
+) -> Result<Text, NoMemory> {
     match command.split_once(' ') {
         None if command == "check" => check(alloc, input.as_bytes()),
-        None => run(alloc, input.as_bytes(), false),
+        None => run(rt, alloc, input.as_bytes(), false),
         Some(("make", count)) => made(alloc, count),
-        Some(("drill", count)) => run(alloc, made(alloc, count)?.get().as_bytes(), true),
-        Some(_) => run(alloc, input.as_bytes(), true),
+        Some(("drill", count)) => run(rt, alloc, made(alloc, count)?.get().as_bytes(), true),
+        Some(_) => run(rt, alloc, input.as_bytes(), true),
     }
 }
 
@@ -41,11 +47,11 @@ fn check(alloc: Global, bytes: &[u8]) -> Result<Text, NoMemory> {
 }
 
 // What a run writes, or its summary.
-fn run(alloc: Global, bytes: &[u8], summary: bool) -> Result<Text, NoMemory> {
+fn run<R: Wait>(rt: &R, alloc: Global, bytes: &[u8], summary: bool) -> Result<Text, NoMemory> {
     let input = read(alloc, bytes)?;
     match input {
         Input::Read(config, script) => {
-            let output = run_script(alloc, &config, &script, &OpenGate)?;
+            let output = run_script(rt, alloc, &config, &script, &OpenGate)?;
             if summary {
                 summary_text(alloc, &output)
             } else {

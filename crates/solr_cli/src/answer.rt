@@ -10,6 +10,7 @@ use script_form::{
     Config, ConfigRefusal, Script, ScriptRefusal, read_config, read_script, too_large,
 };
 use std::alloc::Global;
+use std::sync::Wait;
 
 // The configuration and the script of an input, or the first status that refuses it.
 pub(crate) fn read_input(alloc: Global, bytes: &[u8]) -> Result<(Config, Script), Status>
@@ -39,7 +40,8 @@ pub(crate) fn read_input(alloc: Global, bytes: &[u8]) -> Result<(Config, Script)
 }
 
 // Runs an input: its configuration and its output, or the first status that refuses it.
-pub(crate) fn answer<G: Gate>(
+pub(crate) fn answer<R: Wait, G: Gate>(
+    rt: &R,
     alloc: Global,
     bytes: &[u8],
     gate: &G,
@@ -47,7 +49,7 @@ pub(crate) fn answer<G: Gate>(
     ensures { MatchResult result (λ r. IsAnswer bytes.now r.0 (output_view r.1)) (IsRefusal bytes.now) }
 {
     let (config, script) = read_input(alloc, bytes)?;
-    match run_script(alloc, &config, &script, gate) {
+    match run_script(rt, alloc, &config, &script, gate) {
         Ok(output) => Ok((config, output)),
         Err(NoMemory) => Err(Status::NoMemory),
     }

@@ -32,7 +32,7 @@ fn main(rt: HostRuntime) -> ExitCode {
         Ok(words) => {
             let mut input = StdSource::new(rt.stdin());
             let mut output = StdSink::new(rt.stdout());
-            run_top(rt.alloc(), &words, &mut input, &mut output, &OpenGate).status
+            run_top(&rt, rt.alloc(), &words, &mut input, &mut output, &OpenGate).status
         }
         Err(NoMemory) => Status::NoMemory,
     };

@@ -5,6 +5,7 @@ use rt_edge::{Failed, MemSink, MemSource, Sink};
 use std::alloc::Global;
 use std::io;
 use std::process::Abort;
+use std::sync::Wait;
 use std::test::Fail;
 
 // A configuration of two fields, and the line behind it.
@@ -32,7 +33,8 @@ struct Seen {
 }
 
 // Runs these words over an input that comes in pieces and fails at chosen reads, and a sink that does so at writes.
-fn see(
+fn see<R: Wait>(
+    rt: &R,
     alloc: Global,
     words: &str,
     input: &[u8],
@@ -42,7 +44,7 @@ fn see(
     let words = split(alloc, words)?;
     let mut source = MemSource::new(input.to_vec(alloc)?, reads.0.max(1), reads.1.to_vec(alloc)?);
     let mut sink = mem_sink(alloc, writes.0, writes.1)?;
-    let ran = run_top(alloc, &words, &mut source, &mut sink, &OpenGate);
+    let ran = run_top(rt, alloc, &words, &mut source, &mut sink, &OpenGate);
     let mut error = mem_sink(alloc, 7, &[])?;
     let code = tell_end(&ran.status, &mut error);
     Ok(Seen {
@@ -73,13 +75,13 @@ fn split(alloc: Global, line: &str) -> Result<Vec<String>, Fail> {
 
 // A command ends so, with that line on standard error, and writes that.
 fn check(
-    rt: &impl Abort,
+    rt: &(impl Abort + Wait),
     alloc: Global,
     words: &str,
     input: &[u8],
     want: (u8, &str, &str),
 ) -> Result<(), Fail> {
-    let seen = see(alloc, words, input, (4096, &[]), (4096, &[]))?;
+    let seen = see(rt, alloc, words, input, (4096, &[]), (4096, &[]))?;
     assert_eq!(rt; seen.code, want.0);
     assert_eq!(rt; &*seen.line, want.1.as_bytes());
     assert_eq!(rt; &*seen.written, want.2.as_bytes());
@@ -180,7 +182,7 @@ fn each_failed_read_and_write_is_told(rt: HostRuntime) -> Result<(), Fail> {
     let input = format!(in alloc; "{TWO_FIELDS}{FOUND}")?;
     let reads = input.len().div_ceil(16) as u32 + 1;
     for k in 0..reads + 2 {
-        let seen = see(alloc, "run", input.as_bytes(), (16, &[k]), (4096, &[]))?;
+        let seen = see(&rt, alloc, "run", input.as_bytes(), (16, &[k]), (4096, &[]))?;
         let fails = k < reads;
         assert_eq!(rt; seen.code, if fails { 3 } else { 0 });
         assert_eq!(rt;
@@ -194,7 +196,7 @@ fn each_failed_read_and_write_is_told(rt: HostRuntime) -> Result<(), Fail> {
     }
     let writes = FOUND_LINES.len().div_ceil(10) as u32;
     for k in 0..writes + 2 {
-        let seen = see(alloc, "run", input.as_bytes(), (4096, &[]), (10, &[k]))?;
+        let seen = see(&rt, alloc, "run", input.as_bytes(), (4096, &[]), (10, &[k]))?;
         let fails = k < writes;
         let end = if fails {
             k as usize * 10
@@ -266,7 +268,7 @@ fn a_failed_flush_is_told_and_words_are_arguments(rt: HostRuntime) -> Result<(),
             faults: 0,
         };
         let words = split(alloc, "run")?;
-        let ran = run_top(alloc, &words, &mut source, &mut sink, &OpenGate);
+        let ran = run_top(&rt, alloc, &words, &mut source, &mut sink, &OpenGate);
         assert_eq!(rt; ran.status.code(), code);
         assert_eq!(rt; sink.rest, rest);
         assert_eq!(rt; sink.flushes, flushes);

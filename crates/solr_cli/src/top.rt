@@ -19,6 +19,7 @@ use field_schema::{NoMemory, Text};
 use rt_edge::{Gate, Sink, Source};
 use script_form::Config;
 use std::alloc::Global;
+use std::sync::Wait;
 
 /// How a command ended, and the output whose text was written.
 #[derive(Debug, Drop)]
@@ -29,7 +30,8 @@ pub struct Ran {
 }
 
 // Reads an input to its end and runs it.
-fn run_input<S: Source, G: Gate>(
+fn run_input<R: Wait, S: Source, G: Gate>(
+    rt: &R,
     alloc: Global,
     input: &mut S,
     gate: &G,
@@ -40,7 +42,7 @@ fn run_input<S: Source, G: Gate>(
     ensures refused { IfSome (S.left input.old) (λ bytes. IfErr result (IsReadRefusal bytes)) }
 {
     match read_all(alloc, input) {
-        Ok(bytes) => answer(alloc, &bytes, gate),
+        Ok(bytes) => answer(rt, alloc, &bytes, gate),
         Err(ReadRefusal::Fault) => Err(Status::ReadFault),
         Err(ReadRefusal::NoMemory) => Err(Status::NoMemory),
     }
@@ -86,7 +88,8 @@ fn write_output<K: Sink>(
 }
 
 // Runs an input and writes its output, or its summary.
-fn run_and_write<S: Source, K: Sink, G: Gate>(
+fn run_and_write<R: Wait, S: Source, K: Sink, G: Gate>(
+    rt: &R,
     alloc: Global,
     input: &mut S,
     out: &mut K,
@@ -104,7 +107,7 @@ fn run_and_write<S: Source, K: Sink, G: Gate>(
         → IsSteady (K.faults out.old) (K.faults out.new)
         → IfSome (S.left input.old) (Completes result.status) }
 {
-    match run_input(alloc, input, gate) {
+    match run_input(rt, alloc, input, gate) {
         Ok((config, output)) => write_output(alloc, &config, output, summary, out),
         Err(status) => Ran {
             status,
@@ -114,7 +117,7 @@ fn run_and_write<S: Source, K: Sink, G: Gate>(
 }
 
 // Runs the generator's script of `n` documents and writes its summary.
-fn drill<K: Sink, G: Gate>(alloc: Global, n: u32, out: &mut K, gate: &G) -> Ran
+fn drill<R: Wait, K: Sink, G: Gate>(rt: &R, alloc: Global, n: u32, out: &mut K, gate: &G) -> Ran
     requires count { IsCount n }
     ensures asked { result.status ≢ Status.Usage }
     ensures faults { CountsWrites result.status (K.faults out.old) (K.faults out.new) }
@@ -124,7 +127,7 @@ fn drill<K: Sink, G: Gate>(alloc: Global, n: u32, out: &mut K, gate: &G) -> Ran
     ensures explained { ExplainsDrill n result.status result.output }
     ensures completes { IsSteady (K.faults out.old) (K.faults out.new) → IsDoneOrWanting result.status }
 {
-    match run_made(alloc, n, gate) {
+    match run_made(rt, alloc, n, gate) {
         Ok((config, output)) => write_output(alloc, &config, output, true, out),
         Err(status) => Ran {
             status,
@@ -142,7 +145,8 @@ fn drill<K: Sink, G: Gate>(alloc: Global, n: u32, out: &mut K, gate: &G) -> Ran
 /// BadConfig, BadLine, want of memory in the run, WriteFault; want of memory may also come earlier. Only Done and
 /// WriteFault write, each write is lent all that is not yet written, and then `flush` is called once. Reading stops
 /// one byte over the greatest input. It costs the lengths of the input and of what is written, and the run.
-pub fn run_top<S: Source, K: Sink, G: Gate>(
+pub fn run_top<R: Wait, S: Source, K: Sink, G: Gate>(
+    rt: &R,
     alloc: Global,
     words: &[String],
     input: &mut S,
@@ -184,7 +188,7 @@ pub fn run_top<S: Source, K: Sink, G: Gate>(
         };
     };
     match command {
-        Command::Run { summary } => run_and_write(alloc, input, out, gate, summary),
+        Command::Run { summary } => run_and_write(rt, alloc, input, out, gate, summary),
         Command::Check => Ran {
             status: check_script(alloc, input, out),
             output: None,
@@ -193,6 +197,6 @@ pub fn run_top<S: Source, K: Sink, G: Gate>(
             status: make_script(alloc, count, out),
             output: None,
         },
-        Command::Drill(count) => drill(alloc, count, out, gate),
+        Command::Drill(count) => drill(rt, alloc, count, out, gate),
     }
 }

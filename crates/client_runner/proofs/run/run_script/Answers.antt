@@ -9,6 +9,7 @@ use Rattle.run_laws.specs.Calls.{Call, call_as, calls_of}
 use Rattle.run_laws.specs.Lawful.{Ascends, Lawful}
 use Rattle.run_laws.specs.Notes.{TellNotes}
 use Rattle.field_schema.specs.declared.memory.NoMemory.{NoMemory}
+use Rattle.served_index.specs.IndexState.{IndexState}
 use Rattle.client_runner.specs.declared.rows.Output as rows
 use Rattle.client_runner.specs.declared.order.Turn.{Turn}
 use Rattle.client_runner.specs.Histories.{GoesByHistory}
@@ -57,12 +58,18 @@ all_ok (Ok x) P Q R S f p q r = f x p q r
 all_ok (Err y) P Q R S f p q r = tt
 
 pub loop-turn-init : goal.loop-turn-init
-loop-turn-init g c = record {
-  served = subst (Served c.args.config.now []) (sym c.in_ok-runner.ensures.standing_is)
-      (subst (λ b. Served c.args.config.now [] (first b)) (sym c.is_acquired_first-listened.ensures) (none_served c.args.config.now c.requires.warming));
-  ready = first_ready c.args.config.now c.is_acquired_first-listened.result c.in_ok-runner.runner
-      (subst (λ k. IsFirst k c.is_acquired_first-listened.result c.in_ok-runner.runner) c.key_field-key.ensures.number c.in_ok-runner.ensures);
-}
+loop-turn-init g c =
+    let config = c.args.config.now in
+    let runner = c.in_ok-runner.runner in
+    let listened = c.is_acquired_first-listened.result in
+    record {
+      served = subst (λ (k : IndexState). Served config [] (standing (record runner { index = k }))) (sym c.listen.ensures)
+          (subst (Served config []) (sym c.in_ok-runner.ensures.standing_is)
+          (subst (λ b. Served config [] (first b)) (sym c.is_acquired_first-listened.ensures) (none_served config c.requires.warming)));
+      ready = subst (λ (k : IndexState). IsReady config 100000 (record runner { index = k })) (sym c.listen.ensures)
+          (first_ready config listened runner
+          (subst (λ k. IsFirst k listened runner) c.key_field-key.ensures.number c.in_ok-runner.ensures));
+    }
 
 pub bounds-get-turn : goal.bounds-get-turn
 bounds-get-turn g c =

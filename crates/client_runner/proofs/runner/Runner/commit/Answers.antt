@@ -14,7 +14,7 @@ use Rattle.client_runner.proofs.runner.Runner.commit.Goals as goal
 
 -- the fault is the first one, and no want of memory
 pub returns-in-Err-clause-ok : goal.returns-in-Err-clause-ok
-returns-in-Err-clause-ok c =
+returns-in-Err-clause-ok g c =
     refusal_answers c.args.config.now c.args.head c.args.body.now (standing c.args.self.now) (request_message c.in-Err.fault) c.refused_row.result (is_no_memory c.in-Err.fault)
     c.refused_row.ensures.fault c.refused_row.ensures.row
     (λ known.
@@ -24,7 +24,7 @@ returns-in-Err-clause-ok c =
 
 -- it opens no searcher
 pub returns-then-not-form-clause-ok : goal.returns-then-not-form-clause-ok
-returns-then-not-form-clause-ok c =
+returns-then-not-form-clause-ok g c =
     accepted_follows c.args.config.now c.args.head c.args.body.now (standing c.args.self.now) c.in_ok-reply.reply (request_view c.row.result) nothing c.take_place-place.result (standing c.take_place-place.new.self)
     c.row.ensures c.take_place-place.ensures.place c.in_ok-reply.ensures.shown c.in_ok-reply.ensures.notes
     (ap (λ v. is_query (verb_view v)) c.requires.verb)
@@ -35,7 +35,7 @@ returns-then-not-form-clause-ok c =
 
 -- it opens one
 pub returns-clause-ok : goal.returns-clause-ok
-returns-clause-ok c =
+returns-clause-ok g c =
     opened_follows c.args.config.now c.args.head c.args.body.now (standing c.args.self.now) c.in_ok-reply.reply (request_view c.row-2.result)
     c.in_ok-place.place (c.args.self.now.current.generation + 1) (standing c.open.new.self)
     c.row-2.ensures c.in_ok-place.ensures.place refl c.in_ok-reply.ensures.shown c.in_ok-reply.ensures.notes
