@@ -156,12 +156,12 @@ module _ {D U W X L : Type 0} (r : Registrar D U W X L) (other : Known W U X L) 
         fewer = removed_one g (listed r.warming) (subst Ascends same (sound l x.log legal_log).ascending) (ap (is_in g) (sym same) ∙ is);
       }
 
-module _ {D U W X L : Type 0} (r : Registrar D U W X L) (other : Known W U X L) (new : Me (Cell D U) (Known W U X L)) (task : Task) (fresh : Option Fresh) (g : ℕ) where
-  pub less_finish : (x : HasEntered r other new (Finish g []) task fresh) (n : Known W U X L) → HasNoPlaceSince n.seen new.0.seen → HasOneLess r other new (Finish g []) task fresh x n g g
-  less_finish x n quiet = one_less r other new (Finish g []) task fresh x n g g refl refl refl (allowed r other new (Finish g []) task fresh x).warming refl quiet
+module _ {D U W X L : Type 0} (r : Registrar D U W X L) (other : Known W U X L) (new : Me (Cell D U) (Known W U X L)) (task : Task) (fresh : Option Fresh) (g : ℕ) (list : List L) where
+  pub less_finish : (x : HasEntered r other new (Finish g list) task fresh) (n : Known W U X L) → HasNoPlaceSince n.seen new.0.seen → HasOneLess r other new (Finish g list) task fresh x n g g
+  less_finish x n quiet = one_less r other new (Finish g list) task fresh x n g g refl refl refl (allowed r other new (Finish g list) task fresh x).warming refl quiet
 
-  pub less_superseded : (by : ℕ) (x : HasEntered r other new (Superseded g by []) task fresh) (n : Known W U X L) → HasNoPlaceSince n.seen new.0.seen → HasOneLess r other new (Superseded g by []) task fresh x n g r.current
-  less_superseded by x n quiet = one_less r other new (Superseded g by []) task fresh x n g r.current refl refl refl (allowed r other new (Superseded g by []) task fresh x).warming (r.current_is ∙ sym (ap number_of x.openings.current)) quiet
+  pub less_superseded : (by : ℕ) (x : HasEntered r other new (Superseded g by list) task fresh) (n : Known W U X L) → HasNoPlaceSince n.seen new.0.seen → HasOneLess r other new (Superseded g by list) task fresh x n g r.current
+  less_superseded by x n quiet = one_less r other new (Superseded g by list) task fresh x n g r.current refl refl refl (allowed r other new (Superseded g by list) task fresh x).warming (r.current_is ∙ sym (ap number_of x.openings.current)) quiet
 
 module _ {D U W X L : Type 0} where
   -- a reference more to the table

@@ -156,9 +156,9 @@ module _ {U X L : Type 0} where
   }
 
 module _ {D W U X L : Type 0} (setting : D → W) (docs : D → X) (deeds : D → List L) (p : Plan W) where
-  pub publishes : (slots id : ℕ) (me : Me (Cell D U) (Known W U X L)) (i x : ℕ) (f : Fresh) → i ≡ current_word → x ≡ packed f.generation f.slot 0 → me.0.registrar ≡ true → me.0.task ≡ Idle → me.0.fresh ≡ Some f
-      → IfSome (state_of (limits p) me.0.seen).current (λ h. h ≤ f.generation) → Allows (Kept setting docs deeds p) slots id me i (λ _. x) (Published (step slots i x 0 maybe.none) me)
-  publishes slots id me i x f at_word value role idle fresh least s kept deep at small =
+  pub publishes : (list : List L) (slots id : ℕ) (me : Me (Cell D U) (Known W U X L)) (i x : ℕ) (f : Fresh) → i ≡ current_word → x ≡ packed f.generation f.slot 0 → me.0.registrar ≡ true → me.0.task ≡ Idle → me.0.fresh ≡ Some f
+      → IfSome (state_of (limits p) me.0.seen).current (λ h. h ≤ f.generation) → Allows (Kept setting docs deeds p) slots id me i (λ _. x) (Published list (step slots i x 0 maybe.none) me)
+  publishes list slots id me i x f at_word value role idle fresh least s kept deep at small =
       let w = kept.world in
       let k = me.0 in
       let g : ℕ = f.generation in
@@ -167,7 +167,7 @@ module _ {D W U X L : Type 0} (setting : D → W) (docs : D → X) (deeds : D �
       let r = all.registrar role in
       let v : State = state_of l w.log in
       let n : ℕ = slice_index s.words current_word in
-      let e : Entry U X L = Finish g [] in
+      let e : Entry U X L = Finish g list in
       let log : List (Entry U X L) = w.log ++ e ∷ [] in
       let h : IsFresh w id l f = all.fresh f fresh in
       let quiet = quiet_since l w.log k.seen r.seen in
@@ -225,7 +225,7 @@ module _ {D W U X L : Type 0} (setting : D → W) (docs : D → X) (deeds : D �
         keeps,
         tt,
         subst (λ (m : ℕ). Kept setting docs deeds p (stepped s m x id me.1 (record (looked k log w.pending) { hand = None; task = left_by (slice_index s.words m); fresh = None }) keeps)) (sym at_word) goes,
-        λ y has. subst (λ (z : ℕ × Fresh). HasPublished z.1 (slice_index s.words z.0) me (record (looked k log w.pending) { hand = None; task = left_by (slice_index s.words z.0); fresh = None }, me.1)) (λ j. (sym at_word j, same_Some f y (sym fresh ∙ has) j)) record {
+        λ y has. subst (λ (z : ℕ × Fresh). HasPublished list z.1 (slice_index s.words z.0) me (record (looked k log w.pending) { hand = None; task = left_by (slice_index s.words z.0); fresh = None }, me.1)) (λ j. (sym at_word j, same_Some f y (sym fresh ∙ has) j)) record {
           executed = record {
             log = w.log;
             pending = w.pending;
@@ -237,9 +237,9 @@ module _ {D W U X L : Type 0} (setting : D → W) (docs : D → X) (deeds : D �
         },
       )
 
-  pub supersedes : (slots id : ℕ) (me : Me (Cell D U) (Known W U X L)) (i by : ℕ) (f : Fresh) → i ≡ 16 → me.0.registrar ≡ true → me.0.task ≡ Idle → me.0.fresh ≡ Some f → me.0.plan ≡ Some p
-      → (state_of (limits p) me.0.seen).current ≡ Some by → f.generation < by → Allows (Kept setting docs deeds p) slots id me i (λ _. 0) (λ _. Superseding (step slots i 0 0 maybe.none) me 0)
-  supersedes slots id me i by f at_word role idle fresh plan current later s kept deep at small =
+  pub supersedes : (list : List L) (slots id : ℕ) (me : Me (Cell D U) (Known W U X L)) (i by : ℕ) (f : Fresh) → i ≡ 16 → me.0.registrar ≡ true → me.0.task ≡ Idle → me.0.fresh ≡ Some f → me.0.plan ≡ Some p
+      → (state_of (limits p) me.0.seen).current ≡ Some by → f.generation < by → Allows (Kept setting docs deeds p) slots id me i (λ _. 0) (λ _. Superseding list (step slots i 0 0 maybe.none) me 0)
+  supersedes list slots id me i by f at_word role idle fresh plan current later s kept deep at small =
       let w = kept.world in
       let k = me.0 in
       let g : ℕ = f.generation in
@@ -247,7 +247,7 @@ module _ {D W U X L : Type 0} (setting : D → W) (docs : D → X) (deeds : D �
       let all = kept.one.fits id k at in
       let r = all.registrar role in
       let v : State = state_of l w.log in
-      let e : Entry U X L = Superseded g by [] in
+      let e : Entry U X L = Superseded g by list in
       let log : List (Entry U X L) = w.log ++ e ∷ [] in
       let h : IsFresh w id l f = all.fresh f fresh in
       let quiet = quiet_since l w.log k.seen r.seen in
@@ -287,7 +287,7 @@ module _ {D W U X L : Type 0} (setting : D → W) (docs : D → X) (deeds : D �
                   (others_warm v e g refl (λ _. refl) y (λ same. away (sym z.here ∙ ap w.fresh_at same ∙ h.here)) z.warming),
             ))
             (λ y z. absurd (none-some y z)),
-        λ y q b has told is. subst (λ (z : Fresh × ℕ). HasExecuted (Superseded z.0.generation z.1 []) (Unsettled z.0.slot z.0.generation 0) None me new)
+        λ y q b has told is. subst (λ (z : Fresh × ℕ). HasExecuted (Superseded z.0.generation z.1 list) (Unsettled z.0.slot z.0.generation 0) None me new)
             (λ j. (same_Some f y (sym fresh ∙ has) j, same_Some by b (sym current ∙ ap (λ (z : Plan W). (state_of (limits z) k.seen).current) (same_Some p q (sym plan ∙ told)) ∙ is) j)) record {
               log = w.log;
               pending = w.pending;

@@ -62,21 +62,22 @@ module _ {D U W X L : Type 0} where
   SettlesOld t since (Some old) = (log : List (Entry U X L)) × HasNoPlaceSince log since × IsSettledAt log (seen_of t) old.0 old.1
 
   -- the generation is current, and what was current before is told with its acquires, and settled
-  pub record IsRegistered (s t : Registrar D U W X L) (o : Opening D U W X L) (at : ℕ) (old : Option (ℕ × ℕ)) : Type 0 where
-    pub ended : HasEnded s t o (Finish o.generation [])
+  pub record IsRegistered (list : List L) (s t : Registrar D U W X L) (o : Opening D U W X L) (at : ℕ) (old : Option (ℕ × ℕ)) : Type 0 where
+    pub ended : HasEnded s t o (Finish o.generation list)
     pub place : at ≡ places_of s
     pub told : old ≡ current_before s ended.before
-    pub settled : SettlesOld t (ended.before ++ Finish o.generation [] ∷ []) old
+    pub settled : SettlesOld t (ended.before ++ Finish o.generation list ∷ []) old
 
   -- a greater generation is current, and this one's slot was settled: nobody had acquired it
-  pub record IsSuperseded (s t : Registrar D U W X L) (o : Opening D U W X L) (by at : ℕ) : Type 0 where
-    pub ended : HasEnded s t o (Superseded o.generation by [])
+  pub record IsSuperseded (list : List L) (s t : Registrar D U W X L) (o : Opening D U W X L) (by at : ℕ) : Type 0 where
+    pub ended : HasEnded s t o (Superseded o.generation by list)
     pub place : at ≡ places_of s
     pub current : by ≡ current_in (plan_of s) (seen_of s)
     pub log : List (Entry U X L)
-    pub since : HasNoPlaceSince log (ended.before ++ Superseded o.generation by [] ∷ [])
+    pub since : HasNoPlaceSince log (ended.before ++ Superseded o.generation by list ∷ [])
     pub settled : IsSettledAt log (seen_of t) o.generation 0
 
-  abbrev pub HasPublished : Registrar D U W X L → Registrar D U W X L → Opening D U W X L → Published → Type 0
-  HasPublished s t o (AsRegistered at old) = IsRegistered s t o at old
-  HasPublished s t o (AsSuperseded by at) = IsSuperseded s t o by at
+  -- either, and the entry carries this list
+  abbrev pub HasPublished : List L → Registrar D U W X L → Registrar D U W X L → Opening D U W X L → Published → Type 0
+  HasPublished list s t o (AsRegistered at old) = IsRegistered list s t o at old
+  HasPublished list s t o (AsSuperseded by at) = IsSuperseded list s t o by at

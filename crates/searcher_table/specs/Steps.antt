@@ -275,18 +275,18 @@ module _ {W U X L : Type 0} where
 
     -- ---- the end of a warming
 
-    -- the warming generation is current, and what was current is to be settled
-    pub record HasPublished (f : Fresh) (found : ℕ) (before new : Me (Cell D U) (Known W U X L)) : Type 0 where
-      pub executed : HasExecuted (Finish f.generation []) (left_by found) None before new
+    -- the warming generation is current, its entry has this list, and what was current is to be settled
+    pub record HasPublished (list : List L) (f : Fresh) (found : ℕ) (before new : Me (Cell D U) (Known W U X L)) : Type 0 where
+      pub executed : HasExecuted (Finish f.generation list) (left_by found) None before new
       pub tells : (p : Plan W) → before.0.plan ≡ Some p → TellsCurrent (limits p) executed.log found
 
-    abbrev pub Published : Step (Cell D U) → Me (Cell D U) (Known W U X L) → ℕ → Me (Cell D U) (Known W U X L) → Type 0
-    Published step before found after = (f : Fresh) → before.0.fresh ≡ Some f → HasPublished f found before after
+    abbrev pub Published : List L → Step (Cell D U) → Me (Cell D U) (Known W U X L) → ℕ → Me (Cell D U) (Known W U X L) → Type 0
+    Published list step before found after = (f : Fresh) → before.0.fresh ≡ Some f → HasPublished list f found before after
 
-    -- a greater one is current, and the slot of the one that was warming is to be settled
-    abbrev pub Superseding : Step (Cell D U) → Me (Cell D U) (Known W U X L) → ℕ → Me (Cell D U) (Known W U X L) → Type 0
-    Superseding step before stored after = (f : Fresh) (p : Plan W) (by : ℕ) → before.0.fresh ≡ Some f → before.0.plan ≡ Some p → (state_of (limits p) before.0.seen).current ≡ Some by
-        → HasExecuted (Superseded f.generation by []) (Unsettled f.slot f.generation 0) None before after
+    -- a greater one is current, the entry of the one that was warming has this list, and its slot is to be settled
+    abbrev pub Superseding : List L → Step (Cell D U) → Me (Cell D U) (Known W U X L) → ℕ → Me (Cell D U) (Known W U X L) → Type 0
+    Superseding list step before stored after = (f : Fresh) (p : Plan W) (by : ℕ) → before.0.fresh ≡ Some f → before.0.plan ≡ Some p → (state_of (limits p) before.0.seen).current ≡ Some by
+        → HasExecuted (Superseded f.generation by list) (Unsettled f.slot f.generation 0) None before after
 
     -- the acquires of the generation are told to its slot's word, which had counted its releases
     pub record HasTold (slot g total found : ℕ) (before new : Me (Cell D U) (Known W U X L)) : Type 0 where

@@ -5,6 +5,7 @@ ghost use Rattle.searcher_table.specs.Steps.{Opened, Acquired, Released, Freed, 
 use crate::board::{Cell, Known};
 use crate::shown::Shown;
 use atomic_table::{Join, Play, Split};
+use std::marker::{Brand, PhantomData};
 
 // A word is read, and the history so far is seen.
 pub(crate) struct Look;
@@ -111,18 +112,37 @@ impl<D: Shown, U> Play<Cell<D, U>, Known<D::Setting, U, D::Docs, D::Deed>> for L
     ghost then = { was_laid D.docs };
 }
 
-// A warming generation is current.
-pub(crate) struct Publish;
+// The list with which a warming ends. A call at `Brand` picks it.
+pub(crate) trait Ends<L> {
+    ghost use Rattle.std.specs.Prelude.{List};
 
-impl<D: Shown, U> Play<Cell<D, U>, Known<D::Setting, U, D::Docs, D::Deed>> for Publish {
-    ghost then = { Published };
+    ghost list: { List L };
+}
+
+impl<L> Ends<L> for Brand {
+    ghost use Rattle.std.specs.Prelude.{[]};
+
+    ghost list = { [] };
+}
+
+// A warming generation is current.
+pub(crate) struct Publish<E> {
+    ends: PhantomData<E>,
+}
+
+impl<D: Shown, U, E: Ends<D::Deed>> Play<Cell<D, U>, Known<D::Setting, U, D::Docs, D::Deed>>
+    for Publish<E> {
+    ghost then = { Published E.list };
 }
 
 // A warming generation is given up, since a greater one is current.
-pub(crate) struct Supersede;
+pub(crate) struct Supersede<E> {
+    ends: PhantomData<E>,
+}
 
-impl<D: Shown, U> Play<Cell<D, U>, Known<D::Setting, U, D::Docs, D::Deed>> for Supersede {
-    ghost then = { Superseding };
+impl<D: Shown, U, E: Ends<D::Deed>> Play<Cell<D, U>, Known<D::Setting, U, D::Docs, D::Deed>>
+    for Supersede<E> {
+    ghost then = { Superseding E.list };
 }
 
 // The word of a slot is told the acquires of its generation.

@@ -1,36 +1,37 @@
 use crate::board::{CURRENT, GENERATION, REGISTRAR, SLOT};
-use crate::plays::{Gather, Publish, Supersede};
+use crate::plays::{Ends, Gather, Publish, Supersede};
 use crate::registrar::Registrar;
 use crate::settle::settle;
 use crate::shown::Shown;
 use crate::tokens::{Opening, Published};
+use std::marker::Brand;
 
 impl<D: Shown, U: Drop> Registrar<D, U> {
     ghost use Rattle.std.specs.Prelude.{◌≡◌, ◌<◌, ◌≤◌};
     ghost use Rattle.searcher_table.specs.Registrars.{table_of, places_of};
     ghost use Rattle.searcher_table.specs.Publishing.{HasPublished};
 
-    /// Ends the warming of an opened generation: it is current from now on, unless a greater one is. What was current
-    /// before is settled: its slot is free once nobody uses it any more, and so is that of a superseded one. It takes no
-    /// memory and doesn't wait.
-    pub fn publish(&mut self, opening: Opening<D, U>) -> Published
+    /// Ends the warming of an opened generation: it is current from now on, unless a greater one is. The entry has the list
+    /// of its own door, by which it was warmed. What was current before is settled: its slot is free once nobody uses it
+    /// any more, and so is that of a superseded one. It takes no memory and doesn't wait.
+    pub fn publish(&mut self, opening: Opening<D, U>, own: &D) -> Published
         requires table { opening.seat.table_id ≡ table_of self.old }
         requires room { places_of self.old < 18446744073709551615 }
-        ensures { HasPublished self.old self.new opening result }
+        ensures { HasPublished (D.list own.now) self.old self.new opening result }
     {
         if self.current > opening.generation {
-            self.supersede(opening)
+            self.supersede::<Brand>(opening, own)
         } else {
-            self.register(opening)
+            self.register::<Brand>(opening, own)
         }
     }
 
-    // Gives the opened generation up, since a greater one is current.
-    fn supersede(&mut self, opening: Opening<D, U>) -> Published
+    // Gives the opened generation up, since a greater one is current. A call picks the list from the own door.
+    fn supersede<E: Ends<D::Deed>>(&mut self, opening: Opening<D, U>, _own: &D) -> Published
         requires table { opening.seat.table_id ≡ table_of self.old }
         requires room { places_of self.old < 18446744073709551615 }
         requires later { opening.generation < self.old.current }
-        ensures { HasPublished self.old self.new opening result }
+        ensures { HasPublished E.list self.old self.new opening result }
     {
         let Opening {
             generation,
@@ -41,7 +42,7 @@ impl<D: Shown, U: Drop> Registrar<D, U> {
         } = opening;
         let shared = &self.table.shared;
         shared.join_seat::<Gather>(&mut self.place, seat);
-        shared.store::<Supersede>(&mut self.place, REGISTRAR, 0);
+        shared.store::<Supersede<E>>(&mut self.place, REGISTRAR, 0);
         settle(&self.table, &mut self.place, slot, generation, 0);
         let place = self.places;
         self.places += 1;
@@ -53,12 +54,12 @@ impl<D: Shown, U: Drop> Registrar<D, U> {
         }
     }
 
-    // Makes the opened generation current.
-    fn register(&mut self, opening: Opening<D, U>) -> Published
+    // Makes the opened generation current. A call picks the list from the own door.
+    fn register<E: Ends<D::Deed>>(&mut self, opening: Opening<D, U>, _own: &D) -> Published
         requires table { opening.seat.table_id ≡ table_of self.old }
         requires room { places_of self.old < 18446744073709551615 }
         requires latest { self.old.current ≤ opening.generation }
-        ensures { HasPublished self.old self.new opening result }
+        ensures { HasPublished E.list self.old self.new opening result }
     {
         let Opening {
             generation,
@@ -70,7 +71,7 @@ impl<D: Shown, U: Drop> Registrar<D, U> {
         let packed = u64::from(generation) * GENERATION + u64::from(slot) * SLOT;
         let shared = &self.table.shared;
         shared.join_seat::<Gather>(&mut self.place, seat);
-        let word = shared.swap::<Publish>(&mut self.place, CURRENT, packed);
+        let word = shared.swap::<Publish<E>>(&mut self.place, CURRENT, packed);
         let place = self.places;
         self.places += 1;
         self.current = generation;

@@ -39,9 +39,9 @@ module _ {D U W X L : Type 0} where
   }
 
   -- the end of a warming is one call more
-  pub published_counts : (r q : Registrar D U W X L) (o : Opening D U W X L) (how : Published) → HasPublished r q o how → HasOneCallMore r q
-  published_counts r q o (AsRegistered at old) is = ended_counts r q o (Finish o.generation []) is.ended refl
-  published_counts r q o (AsSuperseded by at) is = ended_counts r q o (Superseded o.generation by []) is.ended refl
+  pub published_counts : (list : List L) (r q : Registrar D U W X L) (o : Opening D U W X L) (how : Published) → HasPublished list r q o how → HasOneCallMore r q
+  published_counts list r q o (AsRegistered at old) is = ended_counts r q o (Finish o.generation list) is.ended refl
+  published_counts list r q o (AsSuperseded by at) is = ended_counts r q o (Superseded o.generation by list) is.ended refl
 
 module _ {D U W X L : Type 0} {shows : Ghosts D W X L} where
   -- the caller's call has its entry, which has a place

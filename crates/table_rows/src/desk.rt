@@ -164,13 +164,14 @@ impl Desk {
         }
     }
 
-    /// How the warming of an opening ends.
+    /// How the warming of an opening ends. Its own door is marked 0.
     pub(crate) fn publish(&mut self, opening: Opening<Door, u32>) -> Option<Published>
         requires { opening.seat.table_id ≡ table_of self.old.registrar }
         ensures { IsSameRegistrar self.old.registrar self.new.registrar }
     {
         let places = self.places.checked_add(1)?;
-        let published = self.registrar.publish(opening);
+        let own = Door { number: 9, mark: 0 };
+        let published = self.registrar.publish(opening, &own);
         self.places = places;
         Some(published)
     }

@@ -39,7 +39,7 @@ swap-word-requires g c =
     let least = least_of (state_of (limits (plan_of registrar)) (seen_of registrar)).current registrar.current o.generation registrar.current_is c.requires.latest in (
       e.0 ∙ same,
       omega arith,
-      publishes g.D.Shown.setting g.D.Shown.docs g.D.Shown.list table.key table.table_id.slots c.join_seat.new.seat.id me 8 _ (record { generation = o.generation; slot = o.slot }) refl (omega arith) (ap (λ m. m.0.registrar) e.2 ∙ registrar.role) (ap (λ m. m.0.task) e.2 ∙ registrar.idle)
+      publishes g.D.Shown.setting g.D.Shown.docs g.D.Shown.list table.key g.E.Ends.list table.table_id.slots c.join_seat.new.seat.id me 8 _ (record { generation = o.generation; slot = o.slot }) refl (omega arith) (ap (λ m. m.0.registrar) e.2 ∙ registrar.role) (ap (λ m. m.0.task) e.2 ∙ registrar.idle)
           (ap (λ m. m.0.fresh) e.2 ∙ o.warming) (subst (λ z. IfSome z (λ h. h ≤ o.generation)) (λ i. (state_of (limits (sym (ap (λ t. t.shared.key) c.deref.ensures) i)) (sym (ap (λ m. m.0.seen) e.2) i)).current) least),
     )
 
@@ -52,10 +52,10 @@ push_reserved-requires g c =
     let new = c.swap-word.new.seat.me in
     let word = c.swap-word.result in
     let y = c.swap-word.ensures.2 (record { generation = o.generation; slot = o.slot }) (ap (λ m. m.0.fresh) e.2 ∙ o.warming) in
-    let x = executed registrar registrar.place.me.0 o.seat.me.0 me new (Finish o.generation []) (left_by word) None (goes registrar) (ap (λ m. m.0) e.2) y.executed in
+    let x = executed registrar registrar.place.me.0 o.seat.me.0 me new (Finish o.generation g.E.Ends.list) (left_by word) None (goes registrar) (ap (λ m. m.0) e.2) y.executed in
     let plan = ap (λ m. m.0.plan) e.2 ∙ registrar.told in
-    let t = subst (λ l. TellsCurrent (limits (plan_of registrar)) l word) (sym (executed_log registrar registrar.place.me.0 o.seat.me.0 me new (Finish o.generation []) (left_by word) None (goes registrar) (ap (λ m. m.0) e.2) y.executed)) (y.tells (plan_of registrar) plan) in
-    let less = less_finish registrar o.seat.me.0 new (left_by word) None o.generation x new.0 (quiet_here new.0.seen) in
+    let t = subst (λ l. TellsCurrent (limits (plan_of registrar)) l word) (sym (executed_log registrar registrar.place.me.0 o.seat.me.0 me new (Finish o.generation g.E.Ends.list) (left_by word) None (goes registrar) (ap (λ m. m.0) e.2) y.executed)) (y.tells (plan_of registrar) plan) in
+    let less = less_finish registrar o.seat.me.0 new (left_by word) None o.generation g.E.Ends.list x new.0 (quiet_here new.0.seen) in
     let a = less.fewer in
     let b = registrar.enough in
     let d = registrar.held in
@@ -70,10 +70,10 @@ invariant_of-self g c =
     let new = c.swap-word.new.seat.me in
     let word = c.swap-word.result in
     let y = c.swap-word.ensures.2 (record { generation = o.generation; slot = o.slot }) (ap (λ m. m.0.fresh) e.2 ∙ o.warming) in
-    let x = executed registrar registrar.place.me.0 o.seat.me.0 me new (Finish o.generation []) (left_by word) None (goes registrar) (ap (λ m. m.0) e.2) y.executed in
+    let x = executed registrar registrar.place.me.0 o.seat.me.0 me new (Finish o.generation g.E.Ends.list) (left_by word) None (goes registrar) (ap (λ m. m.0) e.2) y.executed in
     let plan = ap (λ m. m.0.plan) e.2 ∙ registrar.told in
-    let t = subst (λ l. TellsCurrent (limits (plan_of registrar)) l word) (sym (executed_log registrar registrar.place.me.0 o.seat.me.0 me new (Finish o.generation []) (left_by word) None (goes registrar) (ap (λ m. m.0) e.2) y.executed)) (y.tells (plan_of registrar) plan) in
-    let less = less_finish registrar o.seat.me.0 new (left_by word) None o.generation x new.0 (quiet_here new.0.seen) in
+    let t = subst (λ l. TellsCurrent (limits (plan_of registrar)) l word) (sym (executed_log registrar registrar.place.me.0 o.seat.me.0 me new (Finish o.generation g.E.Ends.list) (left_by word) None (goes registrar) (ap (λ m. m.0) e.2) y.executed)) (y.tells (plan_of registrar) plan) in
+    let less = less_finish registrar o.seat.me.0 new (left_by word) None o.generation g.E.Ends.list x new.0 (quiet_here new.0.seen) in
     let id : c.swap-word.new.seat.table_id ≡ registrar.place.table_id = c.swap-word.ensures.0 ∙ e.0 in
     let pushed = c.push_reserved.ensures.items in
     record {
@@ -113,9 +113,9 @@ returns-then-word-lt-GENERATION g c =
     let new = c.swap-word.new.seat.me in
     let word = c.swap-word.result in
     let y = c.swap-word.ensures.2 (record { generation = o.generation; slot = o.slot }) (ap (λ m. m.0.fresh) e.2 ∙ o.warming) in
-    let x = executed registrar registrar.place.me.0 o.seat.me.0 me new (Finish o.generation []) (left_by word) None (goes registrar) (ap (λ m. m.0) e.2) y.executed in
+    let x = executed registrar registrar.place.me.0 o.seat.me.0 me new (Finish o.generation g.E.Ends.list) (left_by word) None (goes registrar) (ap (λ m. m.0) e.2) y.executed in
     let plan = ap (λ m. m.0.plan) e.2 ∙ registrar.told in
-    let t = subst (λ l. TellsCurrent (limits (plan_of registrar)) l word) (sym (executed_log registrar registrar.place.me.0 o.seat.me.0 me new (Finish o.generation []) (left_by word) None (goes registrar) (ap (λ m. m.0) e.2) y.executed)) (y.tells (plan_of registrar) plan) in
+    let t = subst (λ l. TellsCurrent (limits (plan_of registrar)) l word) (sym (executed_log registrar registrar.place.me.0 o.seat.me.0 me new (Finish o.generation g.E.Ends.list) (left_by word) None (goes registrar) (ap (λ m. m.0) e.2) y.executed)) (y.tells (plan_of registrar) plan) in
     let id : c.swap-word.new.seat.table_id ≡ registrar.place.table_id = c.swap-word.ensures.0 ∙ e.0 in
     record {
       ended = record {
@@ -141,9 +141,9 @@ settle-requires-clause-begun g c =
     let new = c.swap-word.new.seat.me in
     let word = c.swap-word.result in
     let y = c.swap-word.ensures.2 (record { generation = o.generation; slot = o.slot }) (ap (λ m. m.0.fresh) e.2 ∙ o.warming) in
-    let x = executed registrar registrar.place.me.0 o.seat.me.0 me new (Finish o.generation []) (left_by word) None (goes registrar) (ap (λ m. m.0) e.2) y.executed in
+    let x = executed registrar registrar.place.me.0 o.seat.me.0 me new (Finish o.generation g.E.Ends.list) (left_by word) None (goes registrar) (ap (λ m. m.0) e.2) y.executed in
     let plan = ap (λ m. m.0.plan) e.2 ∙ registrar.told in
-    let t = subst (λ l. TellsCurrent (limits (plan_of registrar)) l word) (sym (executed_log registrar registrar.place.me.0 o.seat.me.0 me new (Finish o.generation []) (left_by word) None (goes registrar) (ap (λ m. m.0) e.2) y.executed)) (y.tells (plan_of registrar) plan) in
+    let t = subst (λ l. TellsCurrent (limits (plan_of registrar)) l word) (sym (executed_log registrar registrar.place.me.0 o.seat.me.0 me new (Finish o.generation g.E.Ends.list) (left_by word) None (goes registrar) (ap (λ m. m.0) e.2) y.executed)) (y.tells (plan_of registrar) plan) in
     record { plan = x.plan ∙ registrar.told; role = x.role ∙ registrar.role; task = x.task_is ∙ left_some (limits (plan_of registrar)) x.log word (let a = c.if-word-lt-GENERATION.false in omega arith) }
 
 pub settle-requires-clause-few : goal.settle-requires-clause-few
@@ -155,9 +155,9 @@ settle-requires-clause-few g c =
     let new = c.swap-word.new.seat.me in
     let word = c.swap-word.result in
     let y = c.swap-word.ensures.2 (record { generation = o.generation; slot = o.slot }) (ap (λ m. m.0.fresh) e.2 ∙ o.warming) in
-    let x = executed registrar registrar.place.me.0 o.seat.me.0 me new (Finish o.generation []) (left_by word) None (goes registrar) (ap (λ m. m.0) e.2) y.executed in
+    let x = executed registrar registrar.place.me.0 o.seat.me.0 me new (Finish o.generation g.E.Ends.list) (left_by word) None (goes registrar) (ap (λ m. m.0) e.2) y.executed in
     let plan = ap (λ m. m.0.plan) e.2 ∙ registrar.told in
-    let t = subst (λ l. TellsCurrent (limits (plan_of registrar)) l word) (sym (executed_log registrar registrar.place.me.0 o.seat.me.0 me new (Finish o.generation []) (left_by word) None (goes registrar) (ap (λ m. m.0) e.2) y.executed)) (y.tells (plan_of registrar) plan) in
+    let t = subst (λ l. TellsCurrent (limits (plan_of registrar)) l word) (sym (executed_log registrar registrar.place.me.0 o.seat.me.0 me new (Finish o.generation g.E.Ends.list) (left_by word) None (goes registrar) (ap (λ m. m.0) e.2) y.executed)) (y.tells (plan_of registrar) plan) in
     few_left (limits (plan_of registrar)) x.log word t (let a = c.if-word-lt-GENERATION.false in omega arith)
 
 pub invariant_of-self-2 : goal.invariant_of-self-2
@@ -169,12 +169,12 @@ invariant_of-self-2 g c =
     let new = c.swap-word.new.seat.me in
     let word = c.swap-word.result in
     let y = c.swap-word.ensures.2 (record { generation = o.generation; slot = o.slot }) (ap (λ m. m.0.fresh) e.2 ∙ o.warming) in
-    let x = executed registrar registrar.place.me.0 o.seat.me.0 me new (Finish o.generation []) (left_by word) None (goes registrar) (ap (λ m. m.0) e.2) y.executed in
+    let x = executed registrar registrar.place.me.0 o.seat.me.0 me new (Finish o.generation g.E.Ends.list) (left_by word) None (goes registrar) (ap (λ m. m.0) e.2) y.executed in
     let plan = ap (λ m. m.0.plan) e.2 ∙ registrar.told in
-    let t = subst (λ l. TellsCurrent (limits (plan_of registrar)) l word) (sym (executed_log registrar registrar.place.me.0 o.seat.me.0 me new (Finish o.generation []) (left_by word) None (goes registrar) (ap (λ m. m.0) e.2) y.executed)) (y.tells (plan_of registrar) plan) in
+    let t = subst (λ l. TellsCurrent (limits (plan_of registrar)) l word) (sym (executed_log registrar registrar.place.me.0 o.seat.me.0 me new (Finish o.generation g.E.Ends.list) (left_by word) None (goes registrar) (ap (λ m. m.0) e.2) y.executed)) (y.tells (plan_of registrar) plan) in
     let n = c.settle.new.place in
     let h = c.settle.ensures.settled in
-    let less = less_finish registrar o.seat.me.0 new (left_by word) None o.generation x n.me.0 h.since in
+    let less = less_finish registrar o.seat.me.0 new (left_by word) None o.generation g.E.Ends.list x n.me.0 h.since in
     let id : n.table_id ≡ registrar.place.table_id = c.settle.ensures.table ∙ c.swap-word.ensures.0 ∙ e.0 in
     let pushed = c.push_reserved.ensures.items in
     record {
@@ -214,9 +214,9 @@ returns g c =
     let new = c.swap-word.new.seat.me in
     let word = c.swap-word.result in
     let y = c.swap-word.ensures.2 (record { generation = o.generation; slot = o.slot }) (ap (λ m. m.0.fresh) e.2 ∙ o.warming) in
-    let x = executed registrar registrar.place.me.0 o.seat.me.0 me new (Finish o.generation []) (left_by word) None (goes registrar) (ap (λ m. m.0) e.2) y.executed in
+    let x = executed registrar registrar.place.me.0 o.seat.me.0 me new (Finish o.generation g.E.Ends.list) (left_by word) None (goes registrar) (ap (λ m. m.0) e.2) y.executed in
     let plan = ap (λ m. m.0.plan) e.2 ∙ registrar.told in
-    let t = subst (λ l. TellsCurrent (limits (plan_of registrar)) l word) (sym (executed_log registrar registrar.place.me.0 o.seat.me.0 me new (Finish o.generation []) (left_by word) None (goes registrar) (ap (λ m. m.0) e.2) y.executed)) (y.tells (plan_of registrar) plan) in
+    let t = subst (λ l. TellsCurrent (limits (plan_of registrar)) l word) (sym (executed_log registrar registrar.place.me.0 o.seat.me.0 me new (Finish o.generation g.E.Ends.list) (left_by word) None (goes registrar) (ap (λ m. m.0) e.2) y.executed)) (y.tells (plan_of registrar) plan) in
     let n = c.settle.new.place in
     let h = c.settle.ensures.settled in
     let id : n.table_id ≡ registrar.place.table_id = c.settle.ensures.table ∙ c.swap-word.ensures.0 ∙ e.0 in

@@ -38,7 +38,7 @@ store-requires g c =
     let current = some_number (state_of (limits (plan_of registrar)) (seen_of registrar)).current registrar.current registrar.current_is (omega arith) in (
       e.0 ∙ same,
       omega arith,
-      supersedes g.D.Shown.setting g.D.Shown.docs g.D.Shown.list table.key table.table_id.slots c.join_seat.new.seat.id me 16 registrar.current (record { generation = o.generation; slot = o.slot }) refl (ap (λ m. m.0.registrar) e.2 ∙ registrar.role) (ap (λ m. m.0.task) e.2 ∙ registrar.idle)
+      supersedes g.D.Shown.setting g.D.Shown.docs g.D.Shown.list table.key g.E.Ends.list table.table_id.slots c.join_seat.new.seat.id me 16 registrar.current (record { generation = o.generation; slot = o.slot }) refl (ap (λ m. m.0.registrar) e.2 ∙ registrar.role) (ap (λ m. m.0.task) e.2 ∙ registrar.idle)
           (ap (λ m. m.0.fresh) e.2 ∙ o.warming) (ap (λ m. m.0.plan) e.2 ∙ registrar.told ∙ ap (λ t. Some t.shared.key) (sym c.deref.ensures))
           ((λ i. (state_of (limits (ap (λ t. t.shared.key) c.deref.ensures i)) (ap (λ m. m.0.seen) e.2 i)).current) ∙ current) later,
     )
@@ -54,7 +54,7 @@ settle-requires-clause-begun g c =
     let by = registrar.current in
     let current = some_number (state_of (limits (plan_of registrar)) (seen_of registrar)).current by registrar.current_is (omega arith) in
     let y = c.store.ensures.2 (record { generation = o.generation; slot = o.slot }) (plan_of registrar) by (ap (λ m. m.0.fresh) e.2 ∙ o.warming) (ap (λ m. m.0.plan) e.2 ∙ registrar.told) (ap (λ m. (state_of (limits (plan_of registrar)) m.0.seen).current) e.2 ∙ current) in
-    let x = executed registrar registrar.place.me.0 o.seat.me.0 me new (Superseded o.generation by []) (Unsettled o.slot o.generation 0) None (goes registrar) (ap (λ m. m.0) e.2) y in
+    let x = executed registrar registrar.place.me.0 o.seat.me.0 me new (Superseded o.generation by g.E.Ends.list) (Unsettled o.slot o.generation 0) None (goes registrar) (ap (λ m. m.0) e.2) y in
     record { plan = x.plan ∙ registrar.told; role = x.role ∙ registrar.role; task = x.task_is }
 
 pub push_reserved-requires : goal.push_reserved-requires
@@ -68,8 +68,8 @@ push_reserved-requires g c =
     let by = registrar.current in
     let current = some_number (state_of (limits (plan_of registrar)) (seen_of registrar)).current by registrar.current_is (omega arith) in
     let y = c.store.ensures.2 (record { generation = o.generation; slot = o.slot }) (plan_of registrar) by (ap (λ m. m.0.fresh) e.2 ∙ o.warming) (ap (λ m. m.0.plan) e.2 ∙ registrar.told) (ap (λ m. (state_of (limits (plan_of registrar)) m.0.seen).current) e.2 ∙ current) in
-    let x = executed registrar registrar.place.me.0 o.seat.me.0 me new (Superseded o.generation by []) (Unsettled o.slot o.generation 0) None (goes registrar) (ap (λ m. m.0) e.2) y in
-    let less = less_superseded registrar o.seat.me.0 new (Unsettled o.slot o.generation 0) None o.generation by x c.settle.new.place.me.0 c.settle.ensures.settled.since in
+    let x = executed registrar registrar.place.me.0 o.seat.me.0 me new (Superseded o.generation by g.E.Ends.list) (Unsettled o.slot o.generation 0) None (goes registrar) (ap (λ m. m.0) e.2) y in
+    let less = less_superseded registrar o.seat.me.0 new (Unsettled o.slot o.generation 0) None o.generation g.E.Ends.list by x c.settle.new.place.me.0 c.settle.ensures.settled.since in
     let a = less.fewer in
     let b = registrar.enough in
     let d = registrar.held in
@@ -86,10 +86,10 @@ invariant_of-self g c =
     let by = registrar.current in
     let current = some_number (state_of (limits (plan_of registrar)) (seen_of registrar)).current by registrar.current_is (omega arith) in
     let y = c.store.ensures.2 (record { generation = o.generation; slot = o.slot }) (plan_of registrar) by (ap (λ m. m.0.fresh) e.2 ∙ o.warming) (ap (λ m. m.0.plan) e.2 ∙ registrar.told) (ap (λ m. (state_of (limits (plan_of registrar)) m.0.seen).current) e.2 ∙ current) in
-    let x = executed registrar registrar.place.me.0 o.seat.me.0 me new (Superseded o.generation by []) (Unsettled o.slot o.generation 0) None (goes registrar) (ap (λ m. m.0) e.2) y in
+    let x = executed registrar registrar.place.me.0 o.seat.me.0 me new (Superseded o.generation by g.E.Ends.list) (Unsettled o.slot o.generation 0) None (goes registrar) (ap (λ m. m.0) e.2) y in
     let n = c.settle.new.place in
     let h = c.settle.ensures.settled in
-    let less = less_superseded registrar o.seat.me.0 new (Unsettled o.slot o.generation 0) None o.generation by x n.me.0 h.since in
+    let less = less_superseded registrar o.seat.me.0 new (Unsettled o.slot o.generation 0) None o.generation g.E.Ends.list by x n.me.0 h.since in
     let id : n.table_id ≡ registrar.place.table_id = c.settle.ensures.table ∙ c.store.ensures.0 ∙ e.0 in
     let pushed = c.push_reserved.ensures.items in
     record {
@@ -131,7 +131,7 @@ returns g c =
     let by = registrar.current in
     let current = some_number (state_of (limits (plan_of registrar)) (seen_of registrar)).current by registrar.current_is (omega arith) in
     let y = c.store.ensures.2 (record { generation = o.generation; slot = o.slot }) (plan_of registrar) by (ap (λ m. m.0.fresh) e.2 ∙ o.warming) (ap (λ m. m.0.plan) e.2 ∙ registrar.told) (ap (λ m. (state_of (limits (plan_of registrar)) m.0.seen).current) e.2 ∙ current) in
-    let x = executed registrar registrar.place.me.0 o.seat.me.0 me new (Superseded o.generation by []) (Unsettled o.slot o.generation 0) None (goes registrar) (ap (λ m. m.0) e.2) y in
+    let x = executed registrar registrar.place.me.0 o.seat.me.0 me new (Superseded o.generation by g.E.Ends.list) (Unsettled o.slot o.generation 0) None (goes registrar) (ap (λ m. m.0) e.2) y in
     let n = c.settle.new.place in
     let h = c.settle.ensures.settled in
     let id : n.table_id ≡ registrar.place.table_id = c.settle.ensures.table ∙ c.store.ensures.0 ∙ e.0 in
