@@ -16,6 +16,17 @@ pub struct Announced<D: Shown, U: Drop> {
     ghost bare: { place.me.1 ≡ [] },
 }
 
+impl<D: Shown, U: Drop> Announced<D, U> {
+    ghost use Rattle.std.specs.Prelude.{◌≡◌};
+
+    /// The content that was announced.
+    pub fn content(&self) -> &U
+        ensures { result.now ≡ self.now.asked.content }
+    {
+        &self.asked.content
+    }
+}
+
 /// What a pass, a registrar or an opening has seen, for another one to meet. It has to be met.
 pub struct Sighting<D: Shown, U: Drop> {
     pub(crate) place: Place<D, U, D::Setting, D::Docs, D::Deed>,
