@@ -1,0 +1,5 @@
+pub mod Journals
+pub mod Own
+pub mod Kept
+pub mod Changing
+pub mod Holdings

@@ -1,0 +1,5 @@
+pub mod Journal
+pub mod Keeping
+pub mod Entering
+pub mod Callers
+pub mod Holding
