@@ -11,7 +11,8 @@ use Rattle.view_cells.specs.Lists.{names}
 use Rattle.view_cells.specs.Seats.{StartsWith, lists_of, IsSole, IsSameSeat, HasJoined, AreSeats}
 use Rattle.view_cells.specs.Closing.{AllIdle}
 use Rattle.table_rows.specs.SeatTrials.{Adds, EachWorked, IsBelow, done_by, ArePair, Worked}
-use Rattle.view_cells.proofs.Closing.{got_last, got_before, named_left, named_right}
+use Rattle.view_cells.proofs.Closing.{got_last, got_before}
+use Rattle.view_cells.proofs.Numbers.{named_left, named_right}
 
 below_one_more : (most : ℕ) (cs : List (ℕ × ℕ)) (c : ℕ × ℕ) → IsBelow most cs → c.1 < most → IsBelow most (cs ++ c ∷ [])
 below_one_more most [] c all less = (less, tt)

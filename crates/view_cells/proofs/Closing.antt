@@ -1,15 +1,15 @@
 -- Joining all seats of a table.
-use Rattle.std.proofs.Common.{◌≡◌, ℕ, zero, suc, ◌+◌, ◌<◌, true, false, true≢false, List, [], ◌∷◌, ◌++◌, length, Some, None, sym, refl, ap, ◌∙◌, subst, ⊎_elim, arith, length-append}
+use Rattle.std.proofs.Common.{◌≡◌, ℕ, zero, suc, ◌+◌, ◌<◌, false, List, [], ◌∷◌, ◌++◌, length, Some, None, sym, refl, ap, ◌∙◌, subst, arith, length-append}
 use mathlib.Core.Logic.{dite}
 use native.Mathlib.Decide.{ℕ_discrete}
 use Rattle.std.specs.Prelude.{slice_get}
 use Rattle.std.proofs.lemmas.Option.{slice_get_within, same_Some}
 use Rattle.view_cells.specs.declared.board.Listing.{Listing}
 use Rattle.view_cells.specs.declared.seat.Seat.{Seat}
-use Rattle.view_cells.specs.Lists.{names, entries_of}
+use Rattle.view_cells.specs.Lists.{names, AreDistinct, entries_of}
 use Rattle.view_cells.specs.Seats.{table_of, view_of, lists_of, list_of, own_list, HasNumber, IsIdle, HasJoined, KeepsLists}
-use Rattle.view_cells.specs.Closing.{AllIdle, IsAlone, AllAlone, AreLeft, FitsAll, KeepsEach}
-use Rattle.view_cells.proofs.Numbers.{holds_or_not, names_cons, names_here, names_there, entries_left, entries_right}
+use Rattle.view_cells.specs.Closing.{AllIdle, AreLeft, FitsAll, KeepsEach}
+use Rattle.view_cells.proofs.Numbers.{named_left, named_right, entries_left, entries_right, distinct_left, distinct_apart}
 
 pub got_last : {A : Type 0} (xs : List A) (x : A) → slice_get (xs ++ x ∷ []) (length xs) ≡ Some x
 got_last [] x = refl
@@ -24,23 +24,10 @@ pub none_left : (n : ℕ) → (0 < n → ⊥) → n ≡ 0
 none_left zero off = refl
 none_left (suc n) off = absurd (off (omega arith))
 
-module _ {E : Type 0} where
-  pub named_left : (n : ℕ) (xs ys : List (Listing E)) → names n xs ≡ true → names n (xs ++ ys) ≡ true
-  named_left n [] ys has = absurd (true≢false (sym has))
-  named_left n (x ∷ xs) ys has = ⊎_elim (λ e. names_here n x (xs ++ ys) e) (λ h. names_there n x (xs ++ ys) (named_left n xs ys h)) (names_cons n x xs has)
-
-  pub named_right : (n : ℕ) (xs ys : List (Listing E)) → names n ys ≡ true → names n (xs ++ ys) ≡ true
-  named_right n [] ys has = has
-  named_right n (x ∷ xs) ys has = names_there n x (xs ++ ys) (named_right n xs ys has)
-
 module _ {T W E : Type 0} where
-  -- a seat has its own number, and alone it has no other
+  -- a seat has its own number
   own_number : (s : Seat T W E) (n : ℕ) → s.number ≡ n → HasNumber s n
   own_number s n e = ap (λ k. names k (lists_of s)) (sym e) ∙ s.named
-
-  alone_number : (s : Seat T W E) (n : ℕ) → IsAlone s → HasNumber s n → s.number ≡ n
-  alone_number s n alone has =
-      ⊎_elim (λ e. e) (λ h. absurd (true≢false (sym h))) (names_cons n (record { number = s.number; entries = own_list s }) [] (ap (λ (ls : List (Listing E)). names n ls) (sym alone) ∙ has))
 
   -- the last seat, and those before it
   pub last_of : (all xs : List (Seat T W E)) (last : Seat T W E) → all ≡ xs ++ last ∷ [] → AllIdle all → AreLeft all xs last
@@ -56,8 +43,7 @@ module _ {T W E : Type 0} where
         idle = l.idle;
         count = l.count;
         joined = λ m some few. own_number last m (let k = l.number in omega arith);
-        own = λ alone m has. let k = alone_number last m (alone n last here) has in let o = l.number in omega arith;
-        lists = λ alone m s some e.
+        lists = λ _ m s some e.
             let same : m ≡ n = (let w = slice_get_within all m s e in omega arith) in
             let seat : last ≡ s = same_Some last s (sym here ∙ ap (slice_get all) (sym same) ∙ e) in
             ap (λ k. list_of last k) (same ∙ sym l.number) ∙ ap (λ (t : Seat T W E). own_list t) seat;
@@ -80,23 +66,13 @@ module _ {T W E : Type 0} where
         joined = λ m some few. dite (ℕ_discrete m n)
             (λ e. ap (λ (ls : List (Listing E)). names m ls) joined.lists ∙ named_right m (lists_of one) (lists_of other) (own_number other m (o.number ∙ sym e)))
             (λ ne. has m (old.joined m (omega arith) few));
-        own = λ alone m h. ⊎_elim
-            (λ y. let k = old.own alone m y in omega arith)
-            (λ off. let k = alone_number other m (alone n other here) (named_behind m (lists_of one) (lists_of other) off (ap (λ (ls : List (Listing E)). names m ls) (sym joined.lists) ∙ h)) in let p = o.number in omega arith)
-            (holds_or_not (names m (lists_of one)));
-        lists = λ alone m s some e. ap (λ (ls : List (Listing E)). entries_of m ls) joined.lists ∙ dite (ℕ_discrete m n)
+        lists = λ distinct m s some e. let apart : AreDistinct (lists_of one ++ lists_of other) = subst AreDistinct joined.lists distinct in ap (λ (ls : List (Listing E)). entries_of m ls) joined.lists ∙ dite (ℕ_discrete m n)
             (λ same.
-            let absent : names m (lists_of one) ≡ false = ⊎_elim (λ y. let k = old.own alone m y in absurd (omega arith)) (λ off. off) (holds_or_not (names m (lists_of one))) in
+            let absent : names m (lists_of one) ≡ false = distinct_apart m (lists_of one) (lists_of other) apart (own_number other m (o.number ∙ sym same)) in
             let seat : other ≡ s = same_Some other s (sym here ∙ ap (slice_get all) (sym same) ∙ e) in
             entries_right m (lists_of one) (lists_of other) absent ∙ ap (λ k. list_of other k) (same ∙ sym o.number) ∙ ap (λ (u : Seat T W E). own_list u) seat)
-            (λ ne. entries_left m (lists_of one) (lists_of other) (old.joined m (omega arith) (slice_get_within all m s e)) ∙ old.lists alone m s (omega arith) e);
+            (λ ne. entries_left m (lists_of one) (lists_of other) (old.joined m (omega arith) (slice_get_within all m s e)) ∙ old.lists (distinct_left (lists_of one) (lists_of other) apart) m s (omega arith) e);
       }
-    where
-      named_behind : (m : ℕ) (ks ls : List (Listing E)) → names m ks ≡ false → names m (ks ++ ls) ≡ true → names m ls ≡ true
-      named_behind m [] ls off has = has
-      named_behind m (k ∷ ks) ls off has =
-          let less : names m ks ≡ false = ⊎_elim (λ y. absurd (true≢false (sym (names_there m k ks y) ∙ off))) (λ f. f) (holds_or_not (names m ks)) in
-          ⊎_elim (λ e. absurd (true≢false (sym (names_here m k ks e) ∙ off))) (λ h. named_behind m ks ls less h) (names_cons m k (ks ++ ls) has)
 
   -- the seat behind those that are left is at the table, and holds nothing
   pub next_left : (all left xs : List (Seat T W E)) (one other : Seat T W E) → left ≡ xs ++ other ∷ [] → AreLeft all left one → IsIdle other × (table_of other ≡ table_of one)
@@ -108,5 +84,5 @@ module _ {T W E : Type 0} where
   pub fits_left : (fit : W → T → Type 0) (all left : List (Seat T W E)) (one : Seat T W E) (value : T) → AreLeft all left one → fit (view_of one) value → FitsAll fit all value
   fits_left fit all left one value old fits i s e = subst (λ w. fit w value) (sym (old.at i s e).view) fits
 
-  pub keeps_left : (entries : T → ℕ → List E) (all left : List (Seat T W E)) (one : Seat T W E) (value : T) → length left ≡ 0 → AreLeft all left one → KeepsLists entries one value → AllAlone all → KeepsEach entries all value
-  keeps_left entries all left one value none old keeps alone i s e = keeps i (let w = slice_get_within all i s e in let c = old.count in omega arith) ∙ old.lists alone i s (omega arith) e
+  pub keeps_left : (entries : T → ℕ → List E) (all left : List (Seat T W E)) (one : Seat T W E) (value : T) → length left ≡ 0 → AreLeft all left one → KeepsLists entries one value → AreDistinct (lists_of one) → KeepsEach entries all value
+  keeps_left entries all left one value none old keeps distinct i s e = keeps i (let w = slice_get_within all i s e in let c = old.count in omega arith) ∙ old.lists distinct i s (omega arith) e

@@ -8,10 +8,10 @@ use Rattle.atomic_table.specs.Table.{Joins}
 use Rattle.atomic_table.proofs.Lists.{set_else}
 use Rattle.view_cells.specs.declared.board.Setting.{Setting}
 use Rattle.view_cells.specs.declared.board.Known.{Known}
-use Rattle.view_cells.specs.Lists.{names}
+use Rattle.view_cells.specs.Lists.{names, AreDistinct}
 use Rattle.view_cells.specs.Rule.{number, Holds, Kept, HoldsByLock, OwnsLists}
 use Rattle.view_cells.specs.Steps.{joined, spent}
-use Rattle.view_cells.proofs.Numbers.{holds_or_not, names_append, entries_left, entries_right}
+use Rattle.view_cells.proofs.Numbers.{holds_or_not, names_append, entries_left, entries_right, distinct_append}
 use Rattle.view_cells.proofs.Frame.{Each, each_set, taker_stays, not_by_idle}
 use Rattle.view_cells.proofs.SplitOff.{chosen, passed}
 
@@ -56,6 +56,12 @@ module _ {T W E : Type 0} (Fit : W → T → Type 0) (entries : T → ℕ → Li
             let not_joined : names n w.lists ≡ false = ⊎_elim (λ s. absurd (away (sym o.2 ∙ (h.lists other w was n s).2))) (λ s. s) (holds_or_not (names n w.lists)) in
             (o.0, o.1, stays n not_joined ∙ o.2, o.3)) in
             each_set F some_knows other spent (λ n named. absurd (true≢false (sym named))) (λ j u away e. first j u e away);
+        distinct = let F : ℕ → Known T W E → Type 0 = λ _ u. AreDistinct u.lists in
+            let apart' : (n : ℕ) → names n k.lists ≡ true → names n w.lists ≡ false = λ n mine. ⊎_elim
+            (λ theirs. absurd (apart (sym (h.lists other w was n theirs).2 ∙ (h.lists id k at n mine).2)))
+            (λ f. f) (holds_or_not (names n w.lists)) in
+            let first : Each F some_knows = each_set F knows id both (distinct_append k.lists w.lists (h.distinct id k at) (h.distinct other w was) apart') (λ j u _ e. h.distinct j u e) in
+            each_set F some_knows other spent tt (λ j u _ e. first j u e);
       }
 
   pub joins : (id : ℕ) (k : Known T W E) (other : ℕ) (w : Known T W E) → k.taken ≡ None → names (number k) k.lists ≡ true → w.taken ≡ None

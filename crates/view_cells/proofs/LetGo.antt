@@ -11,7 +11,7 @@ use Rattle.atomic_table.proofs.Lists.{set_here}
 use Rattle.view_cells.specs.declared.board.Setting.{Setting}
 use Rattle.view_cells.specs.declared.board.Listing.{Listing}
 use Rattle.view_cells.specs.declared.board.Known.{Known}
-use Rattle.view_cells.specs.Lists.{names, entries_of, with_first, first_number}
+use Rattle.view_cells.specs.Lists.{names, AreDistinct, entries_of, with_first, first_number}
 use Rattle.view_cells.specs.Rule.{number, Holds, Kept, HoldsByLock, OwnsLists}
 use Rattle.view_cells.specs.Steps.{LetGo}
 use Rattle.view_cells.proofs.Frame.{each_set, told}
@@ -25,6 +25,10 @@ module _ {E : Type 0} where
   pub same_number : (es : List E) (ls : List (Listing E)) → first_number (with_first es ls) ≡ first_number ls
   same_number es [] = refl
   same_number es (l ∷ ls) = refl
+
+  same_distinct : (es : List E) (ls : List (Listing E)) → AreDistinct ls → AreDistinct (with_first es ls)
+  same_distinct es [] d = d
+  same_distinct es (l ∷ ls) d = d
 
   pub first_is : (es : List E) (ls : List (Listing E)) → names (first_number ls) ls ≡ true → entries_of (first_number ls) (with_first es ls) ≡ es
   first_is es [] has = absurd (true≢false (sym has))
@@ -83,6 +87,7 @@ module _ {T W E : Type 0} (Fit : W → T → Type 0) (entries : T → ℕ → Li
               o.2,
               same n o.1 (λ e'. other (sym o.2 ∙ ap owner e' ∙ own.2)) ∙ o.3,
             ));
+        distinct = each_set (λ _ (u : Known T W E). AreDistinct u.lists) knows id w (same_distinct (entries new (number k)) k.lists (h.distinct id k at)) (λ j u _ e. h.distinct j u e);
       }
 
   some_of : {x y : Option T} → cell x ≡ cell y → x ≡ y

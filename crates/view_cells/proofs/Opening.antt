@@ -6,7 +6,8 @@ use Rattle.atomic_table.specs.Table.{opening}
 use Rattle.view_cells.specs.declared.board.Setting.{Setting}
 use Rattle.view_cells.specs.declared.board.Known.{Known}
 use Rattle.view_cells.specs.Rule.{Kept, HoldsByLock, OwnsLists, opened}
-use Rattle.view_cells.proofs.Numbers.{blank_names, blank_entries}
+use Rattle.view_cells.specs.Lists.{AreDistinct}
+use Rattle.view_cells.proofs.Numbers.{blank_names, blank_entries, blank_distinct}
 use Rattle.view_cells.proofs.Frame.{Each}
 
 each_one : {A : Type 0} (F : ℕ → A → Type 0) (a : A) → F 0 a → Each F (a ∷ [])
@@ -27,6 +28,7 @@ module _ {T W E : Type 0} (Fit : W → T → Type 0) (entries : T → ℕ → Li
       by_lock = each_one (λ _ u. HoldsByLock Fit entries about (slice_index words 8) (some (some (Some value))) knows value owner u) (opened about) (λ t e. let no : None ≡ Some t = e in cc);
       lists = each_one (OwnsLists Fit entries about (slice_index words 8) (some (some (Some value))) knows value owner) (opened about)
           (λ n has. (refl, (let t = blank_names E n 0 about.seats has in omega arith), refl, none n ∙ sym (blank_entries n 0 about.seats)));
+      distinct = each_one (λ _ (u : Known T W E). AreDistinct u.lists) (opened about) (blank_distinct E 0 about.seats);
     };
   }
 

@@ -8,10 +8,10 @@ use Rattle.atomic_table.specs.Table.{Splits}
 use Rattle.atomic_table.proofs.Lists.{at_longer}
 use Rattle.view_cells.specs.declared.board.Setting.{Setting}
 use Rattle.view_cells.specs.declared.board.Known.{Known}
-use Rattle.view_cells.specs.Lists.{names, others}
+use Rattle.view_cells.specs.Lists.{names, AreDistinct, others}
 use Rattle.view_cells.specs.Rule.{number, Holds, Kept, HoldsByLock, OwnsLists}
 use Rattle.view_cells.specs.Steps.{first_only, rest_only}
-use Rattle.view_cells.proofs.Numbers.{holds_or_not, first_names, others_names}
+use Rattle.view_cells.proofs.Numbers.{holds_or_not, first_names, others_names, distinct_first, distinct_others}
 use Rattle.view_cells.proofs.Frame.{each_set, each_snoc, taker_stays, not_by_idle}
 
 -- a choice by a test that is known
@@ -60,6 +60,10 @@ module _ {T W E : Type 0} (Fit : W → T → Type 0) (entries : T → ℕ → Li
             (λ n has. let f = others_names n k.lists alone has in
             let o = h.lists id k at n f.0 in
             (o.0, o.1, goes n has, o.3 ∙ f.1));
+        distinct = let F : ℕ → Known T W E → Type 0 = λ _ u. AreDistinct u.lists in
+            each_snoc F left_knows right
+            (each_set F knows id left (distinct_first k.lists) (λ j u _ e. h.distinct j u e))
+            (distinct_others k.lists (h.distinct id k at));
       }
 
   pub splits : (id : ℕ) (k : Known T W E) → k.taken ≡ None → names (number k) (others k.lists) ≡ false → Splits (Kept Fit entries about) id k (first_only k) (rest_only k)

@@ -10,7 +10,7 @@ use Rattle.atomic_table.specs.Table.{State, Me, Allows, Act, keeps, takes, step,
 use Rattle.atomic_table.proofs.Lists.{exchanged}
 use Rattle.view_cells.specs.declared.board.Setting.{Setting}
 use Rattle.view_cells.specs.declared.board.Known.{Known}
-use Rattle.view_cells.specs.Lists.{names}
+use Rattle.view_cells.specs.Lists.{names, AreDistinct}
 use Rattle.view_cells.specs.Rule.{number, Holds, Kept, HoldsByLock, OwnsLists}
 use Rattle.view_cells.specs.Steps.{IsLent, Took, looked}
 use Rattle.view_cells.proofs.Frame.{each_set, at_set_same, not_by_idle, taker_stays, told, names_a_seat, sole_finds}
@@ -34,6 +34,7 @@ module _ {T W E : Type 0} (Fit : W → T → Type 0) (entries : T → ℕ → Li
             (λ t e. (let same : Some t ≡ Some value = sym e in cc, refl, has))
             (λ j u _ e t is. let b = (h.by_lock j u e t is).1 in absurd (omega arith));
         lists = each_set (OwnsLists Fit entries about (number k + 1) away (set knows id w) value owner) knows id w (h.lists id k at) (λ j u _ e. h.lists j u e);
+        distinct = each_set (λ _ (u : Known T W E). AreDistinct u.lists) knows id w (h.distinct id k at) (λ j u _ e. h.distinct j u e);
       }
 
   -- a try that finds the value taken changes nothing but what the seat knows of its tries
@@ -48,6 +49,7 @@ module _ {T W E : Type 0} (Fit : W → T → Type 0) (entries : T → ℕ → Li
         if_locked = λ z. let t = h.if_locked z in (t.0, taker_stays knows value id k at idle w (owner (lock - 1)) t.0 t.1 t.3, t.2, t.3);
         by_lock = each_set (λ _ u. HoldsByLock Fit entries about lock home (set knows id w) value owner u) knows id w (h.by_lock id k at) (λ j u _ e. h.by_lock j u e);
         lists = each_set (OwnsLists Fit entries about lock home (set knows id w) value owner) knows id w (h.lists id k at) (λ j u _ e. h.lists j u e);
+        distinct = each_set (λ _ (u : Known T W E). AreDistinct u.lists) knows id w (h.distinct id k at) (λ j u _ e. h.distinct j u e);
       }
 
   -- what the seat is lent fits what it was told
@@ -91,6 +93,7 @@ module _ {T W E : Type 0} (Fit : W → T → Type 0) (entries : T → ℕ → Li
           free = λ _. (v, ap (λ (c : List (ℕ × Option T)). (record (looked k 0) { taken = Some v }, (0, Some v) ∷ c)) bare, lent');
           busy = λ n. absurd (n free);
           sole = λ _. free;
+          distinct = h.distinct id k at;
         },
       ))
       (λ locked. (
@@ -112,5 +115,6 @@ module _ {T W E : Type 0} (Fit : W → T → Type 0) (entries : T → ℕ → Li
             names_a_seat Fit entries about lock home s.views v kept.owner h id k at (number k) has locked,
           );
           sole = λ all. sole all (ℕ_discrete lock 0);
+          distinct = h.distinct id k at;
         },
       ))

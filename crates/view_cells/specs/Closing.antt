@@ -1,6 +1,7 @@
 -- All seats of a table, and what stands while they are joined.
-use Rattle.std.specs.Prelude.{◌≡◌, ℕ, ◌<◌, ◌≤◌, List, [], ◌∷◌, length, slice_get, Some}
+use Rattle.std.specs.Prelude.{◌≡◌, ℕ, ◌<◌, ◌≤◌, List, length, slice_get, Some}
 use Rattle.view_cells.specs.declared.seat.Seat.{Seat}
+use Rattle.view_cells.specs.Lists.{AreDistinct}
 use Rattle.view_cells.specs.Seats.{table_of, seat_count, view_of, lists_of, list_of, own_list, HasNumber, IsIdle}
 
 module _ {T W E : Type 0} where
@@ -27,13 +28,6 @@ module _ {T W E : Type 0} where
   FitsAll fit seats value =
       (i : ℕ) (s : Seat T W E) → slice_get seats i ≡ Some s → fit (view_of s) value
 
-  -- no other seat was joined into this one
-  abbrev pub IsAlone : Seat T W E → Type 0
-  IsAlone s = lists_of s ≡ record { number = s.number; entries = own_list s } ∷ []
-
-  abbrev pub AllAlone : List (Seat T W E) → Type 0
-  AllAlone seats = (i : ℕ) (s : Seat T W E) → slice_get seats i ≡ Some s → IsAlone s
-
   -- what the value keeps of each seat is the seat's own list
   abbrev pub KeepsEach : (T → ℕ → List E) → List (Seat T W E) → T → Type 0
   KeepsEach entries seats value =
@@ -47,7 +41,6 @@ module _ {T W E : Type 0} where
     pub idle : IsIdle one
     pub count : seat_count one ≡ length all
     pub joined : (n : ℕ) → length left ≤ n → n < length all → HasNumber one n
-    pub own : AllAlone all → (n : ℕ) → HasNumber one n → length left ≤ n
     pub lists :
-        AllAlone all → (n : ℕ) (s : Seat T W E) → length left ≤ n → slice_get all n ≡ Some s →
-        list_of one n ≡ own_list s
+        AreDistinct (lists_of one) → (n : ℕ) (s : Seat T W E) → length left ≤ n →
+        slice_get all n ≡ Some s → list_of one n ≡ own_list s

@@ -1,5 +1,5 @@
 -- Lists of entries by the seats' numbers.
-use Rattle.std.specs.Prelude.{ℕ, zero, suc, ◌+◌, Bool, false, ◌||◌, ◌==◌, if◌then◌else◌, List, [], ◌∷◌}
+use Rattle.std.specs.Prelude.{◌≡◌, ℕ, zero, suc, ◌+◌, ⊤, Bool, false, ◌||◌, ◌==◌, if◌then◌else◌, List, [], ◌∷◌}
 use Rattle.view_cells.specs.declared.board.Listing.{Listing}
 
 module _ {E : Type 0} where
@@ -7,6 +7,11 @@ module _ {E : Type 0} where
   abbrev pub names : ℕ → List (Listing E) → Bool
   names n [] = false
   names n (l ∷ ls) = (l.number == n) || names n ls
+
+  -- no number stands twice
+  abbrev pub AreDistinct : List (Listing E) → Type 0
+  AreDistinct [] = ⊤
+  AreDistinct (l ∷ ls) = (names l.number ls ≡ false) × AreDistinct ls
 
   -- the entries of the seat n
   abbrev pub entries_of : ℕ → List (Listing E) → List E

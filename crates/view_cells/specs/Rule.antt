@@ -6,7 +6,7 @@ use lib.ListN.{get_elem?}
 use Rattle.atomic_table.specs.Table.{State}
 use Rattle.view_cells.specs.declared.board.Setting.{Setting}
 use Rattle.view_cells.specs.declared.board.Known.{Known}
-use Rattle.view_cells.specs.Lists.{names, entries_of, first_number, blank}
+use Rattle.view_cells.specs.Lists.{names, AreDistinct, entries_of, first_number, blank}
 
 -- the number of the seat that knows this
 abbrev pub number : {T W E : Type 0} → Known T W E → ℕ
@@ -42,6 +42,7 @@ module _ {T W E : Type 0} (Fit : W → T → Type 0) (entries : T → ℕ → Li
       pub if_locked : IsTakenIfLocked
       pub by_lock : (id : ℕ) (k : Known T W E) → get_elem? knows id ≡ some k → HoldsByLock k
       pub lists : (id : ℕ) (k : Known T W E) → get_elem? knows id ≡ some k → OwnsLists id k
+      pub distinct : (id : ℕ) (k : Known T W E) → get_elem? knows id ≡ some k → AreDistinct k.lists
 
   -- The table's words are the lock word and those round it.
   pub record Kept (s : State (Option T) (Known T W E)) : Type 0 where

@@ -3,7 +3,7 @@ use Rattle.std.specs.Prelude.{◌≡◌, ◌≢◌, ℕ, ◌+◌, ◌<◌, ◌�
 use Rattle.atomic_table.specs.Table.{Me, Step}
 use Rattle.view_cells.specs.declared.board.Setting.{Setting}
 use Rattle.view_cells.specs.declared.board.Known.{Known}
-use Rattle.view_cells.specs.Lists.{names, entries_of, with_first, first_alone, others}
+use Rattle.view_cells.specs.Lists.{names, AreDistinct, entries_of, with_first, first_alone, others}
 use Rattle.view_cells.specs.Rule.{number}
 
 module _ {T W E : Type 0} where
@@ -45,6 +45,7 @@ module _ {T W E : Type 0} where
       pub free : found ≡ 0 → (value : T) × (after ≡ (record (looked before.0 0) { taken = Some value }, (0, Some value) ∷ [])) × IsLent before.0 value
       pub busy : found ≢ 0 → (after ≡ (looked before.0 found, before.1)) × (found ≢ number before.0 + 1) × NamesASeat before.0 found
       pub sole : HasAllSeats before.0 → found ≡ 0
+      pub distinct : AreDistinct before.0.lists
 
     -- the value is back in its cell, and the seat's own list is what it keeps of the seat
     abbrev pub LetGo : Step (Option T) → Me (Option T) (Known T W E) → ℕ → Me (Option T) (Known T W E) → Type 0

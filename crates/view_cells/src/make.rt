@@ -13,7 +13,7 @@ pub struct CellTable;
 impl CellTable {
     ghost use Rattle.std.specs.Prelude.{◌≡◌, ℕ, [], ◌≤◌, length, IfOk};
     ghost use Rattle.view_cells.specs.Seats.{AreSeats};
-    ghost use Rattle.view_cells.specs.Closing.{AllIdle, AllAlone, FitsAll, KeepsEach};
+    ghost use Rattle.view_cells.specs.Closing.{AllIdle, FitsAll, KeepsEach};
 
     /// Puts a value into a table of its own and gives its seats, which are numbered from 0 and name this view.
     ///
@@ -48,7 +48,7 @@ impl CellTable {
         requires row { AllIdle seats.items }
         requires some { 1 ≤ length seats.items }
         ensures fits { FitsAll T.fits seats.items result }
-        ensures lists { AllAlone seats.items → KeepsEach T.entries seats.items result }
+        ensures lists { KeepsEach T.entries seats.items result }
     {
         let Some(mut one) = seats.pop() else {
             unreachable!()

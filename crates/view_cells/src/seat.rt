@@ -1,6 +1,6 @@
 ghost use Rattle.std.specs.Prelude.{◌≡◌, ◌≤◌, true, Some};
 ghost use Rattle.std.specs.Arc.{arc_value};
-ghost use Rattle.view_cells.specs.Lists.{first_number, names};
+ghost use Rattle.view_cells.specs.Lists.{first_number, names, AreDistinct};
 
 use crate::board::{LOCK, Place, SharedTable};
 use crate::fits::Fits;
@@ -35,7 +35,7 @@ impl<T: Fits> Seat<T> {
     ghost use Rattle.std.specs.Borrow.{sem};
     ghost use Rattle.view_cells.specs.Lending.{seat_rests};
     ghost use Rattle.view_cells.specs.Helds.{holder, value_in, IsFresh};
-    ghost use Rattle.view_cells.specs.Seats.{IsIdle, IsAnother, IsSole, HasJoined, FindsAtLast, view_of, table_of, HasTaken, IsRefused, Finds, FitsSeat, KeepsLists};
+    ghost use Rattle.view_cells.specs.Seats.{IsIdle, IsAnother, IsSole, HasJoined, FindsAtLast, view_of, table_of, lists_of, HasTaken, IsRefused, Finds, FitsSeat, KeepsLists};
 
     /// The seat's number, from 0 on.
     pub fn number(&self) -> u32
@@ -53,6 +53,7 @@ impl<T: Fits> Seat<T> {
         ensures free { IfOk result (λ _. Finds self.old self.new 0) }
         ensures others { IfErr result (λ _. ¬ IsSole self.old) }
         ensures refused { IfErr result (λ busy. IsRefused self.old self.new busy.by) }
+        ensures distinct { AreDistinct (lists_of self.old) }
     {
         let shared = &self.table.shared;
         let mine = u64::from(self.number) + 1;
@@ -143,12 +144,14 @@ impl<T: Fits> Seat<T> {
             .join_seat::<Gather>(&mut self.place, place);
     }
 
-    /// The value, once all other seats of the table were joined into this one. It takes no memory and doesn't wait.
+    /// The value, once all other seats of the table were joined into this one: no number is that of two of them. It takes no
+    /// memory and doesn't wait.
     pub fn close(mut self) -> T
         requires idle { IsIdle self }
         requires sole { IsSole self }
         ensures fits { T.fits (view_of self) result }
         ensures lists { KeepsLists T.entries self result }
+        ensures distinct { AreDistinct (lists_of self) }
     {
         match self.grab() {
             Ok(value) => value,

@@ -1,5 +1,5 @@
 use Rattle.std.proofs.Common.{◌≡◌, [], ◌∷◌, ◌++◌, length, vec_len, true≢false, refl, sym, subst, ◌∙◌}
-use Rattle.view_cells.specs.Closing.{AllIdle, AllAlone, FitsAll, KeepsEach}
+use Rattle.view_cells.specs.Closing.{AllIdle, FitsAll, KeepsEach}
 use Rattle.view_cells.proofs.Closing.{last_of, one_less, next_left, fits_left, keeps_left, none_left}
 use Rattle.view_cells.proofs.make.CellTable.close_all.Goals as goal
 
@@ -30,5 +30,5 @@ pub returns-clause-lists : goal.returns-clause-lists
 returns-clause-lists g c =
     let seats = c.loop-other.seats in
     let none : length seats.items ≡ 0 = sym seats.ok.0 ∙ none_left (vec_len seats) (λ lt. true≢false (sym (c.in_default-pop.ensures.variant.1 lt))) in
-    subst (λ ls. AllAlone ls → KeepsEach g.T.Fits.entries ls c.close.result) (sym c.in-Some.ensures.items)
-    (keeps_left g.T.Fits.entries (c.pop.new.self.items ++ c.in-Some.one ∷ []) seats.items c.loop-other.one c.close.result none c.loop-other.invariant c.close.ensures.lists)
+    subst (λ ls. KeepsEach g.T.Fits.entries ls c.close.result) (sym c.in-Some.ensures.items)
+    (keeps_left g.T.Fits.entries (c.pop.new.self.items ++ c.in-Some.one ∷ []) seats.items c.loop-other.one c.close.result none c.loop-other.invariant c.close.ensures.lists c.close.ensures.distinct)
