@@ -106,6 +106,13 @@ impl Doc {
         }
     }
 
+    /// The place of the unique key's field. It costs nothing.
+    pub fn key_field(&self) -> FieldNo
+        ensures { IsIdAt self.now result }
+    {
+        self.key
+    }
+
     /// How many fields it has. It costs nothing.
     pub fn width(&self) -> usize
         ensures { result ≡ length self.now.values }

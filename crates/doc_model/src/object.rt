@@ -81,7 +81,7 @@ pub(crate) fn read_object(
 fn no_values(alloc: Global, schema: &Schema) -> Result<Vec<Vec<Key>>, NoMemory>
     ensures { IfOk result (λ d. map (λ v. v.items) d.items ≡ map (values_of no_members) schema.now.list) }
 {
-    let mut empty = Vec::new(alloc);
+    let mut empty = Vec::with_capacity(alloc, schema.len() as usize)?;
     for _number in 0..schema.len() {
         empty.push(Vec::new(alloc))?;
     }

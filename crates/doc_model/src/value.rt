@@ -32,7 +32,7 @@ fn lone_values(alloc: Global, field: &Field, value: &Value) -> Result<Vec<Key>, 
     ensures { GivesAs (λ v. v.items) is_no_memory result
         (of_type field.now (scalar_values field.now.kind (view value.now))) }
 {
-    let mut found = Vec::new(alloc);
+    let mut found = room(alloc, 1)?;
     add_value(&mut found, scalar_value(alloc, field, value)?)?;
     Ok(found)
 }
@@ -42,11 +42,18 @@ fn array_values(alloc: Global, field: &Field, values: &[Value]) -> Result<Vec<Ke
     ensures { GivesAs (λ v. v.items) is_no_memory result
         (of_type field.now (list_values field.now.kind (map view values.now))) }
 {
-    let mut found = Vec::new(alloc);
+    let mut found = room(alloc, values.len())?;
     for value in values {
         add_value(&mut found, scalar_value(alloc, field, value)?)?;
     }
     Ok(found)
+}
+
+// No values, with room for so many: a document keeps its lists of values as they are made here.
+fn room(alloc: Global, most: usize) -> Result<Vec<Key>, NoMemory>
+    ensures { IfOk result (λ v. v.items ≡ []) }
+{
+    Ok(Vec::with_capacity(alloc, most)?)
 }
 
 // Puts a value behind the others, where there is one.
