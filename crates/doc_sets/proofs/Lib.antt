@@ -3,6 +3,7 @@ pub mod Bits
 pub mod Counting
 pub mod Empty
 pub mod FormOfSet
+pub mod GatheredNumbers
 pub mod Lefts
 pub mod Lowest
 pub mod Members

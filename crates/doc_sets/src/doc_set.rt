@@ -217,7 +217,7 @@ fn of_row(words: Vec<u64>) -> DocSet
 }
 
 // The set of ascending numbers, in the smaller form.
-fn settled_list(alloc: Global, numbers: Vec<DocNo>) -> Result<DocSet, NoMemory>
+pub(crate) fn settled_list(alloc: Global, numbers: Vec<DocNo>) -> Result<DocSet, NoMemory>
     requires { IsAscending numbers.items }
     ensures { IfOk result (λ s. s ≡ set.from_list numbers.items) }
 {
@@ -230,7 +230,7 @@ fn settled_list(alloc: Global, numbers: Vec<DocNo>) -> Result<DocSet, NoMemory>
 }
 
 // The set of a row, in the smaller form.
-fn settled_row(alloc: Global, mut words: Vec<u64>) -> Result<DocSet, NoMemory>
+pub(crate) fn settled_row(alloc: Global, mut words: Vec<u64>) -> Result<DocSet, NoMemory>
     requires { vec_len words ≤ 4096 }
     ensures { IfOk result (λ s. s ≡ set.from_list (numbers_of words.items)) }
 {

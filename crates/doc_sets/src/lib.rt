@@ -2,7 +2,7 @@
 //!
 //! A [`DocSet`] is seen as a finite set of numbers below [`MAX_DOCS`]. A set with few members for its
 //! greatest one is a sorted list, and any other a row of bits, so a set of ten takes tens of bytes and
-//! a full one 32 KiB. No answer depends on the form.
+//! a full one 32 KiB. No answer depends on the form. [`Gathered`] makes a set of numbers that come in any order.
 #![tactic(auto)]
 
 use std::alloc::{AllocError, AllocFailed};
@@ -10,11 +10,13 @@ use std::alloc::{AllocError, AllocFailed};
 mod bit_rows;
 mod doc_list;
 mod doc_set;
+mod gathered;
 mod listed;
 mod walk;
 
 pub use doc_list::DocList;
 pub use doc_set::DocSet;
+pub use gathered::Gathered;
 pub use walk::DocSetIter;
 
 /// The number of a document in a view, below [`MAX_DOCS`].

@@ -5,6 +5,6 @@ pub mod Loops
 pub mod KindsOfQueries
 pub mod Parts
 pub mod Steps
+pub mod GatheredNumbers
 pub mod PositionWalks
 pub mod PhraseSteps
-pub mod MarkedNumbers

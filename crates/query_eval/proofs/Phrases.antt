@@ -26,7 +26,7 @@ use Rattle.segment_postings.proofs.PostingsGathered.{any_place}
 use Rattle.segment_postings.proofs.SegmentLaws.{filter-map}
 use Rattle.query_eval.specs.Found.{found}
 use Rattle.query_eval.specs.Runs.{is_position, same_position, moved_on}
-use Rattle.query_eval.proofs.Verdicts.{and_true, and_false, or_false, doc_of, verdict, passes, absent, settle, contains_found}
+use Rattle.query_eval.proofs.Verdicts.{and_false, or_false, doc_of, verdict, passes, absent, settle, contains_found}
 
 any_filter : {A : Type 0} (p q : A → Bool) (xs : List A) → list_any p (filter q xs) ≡ list_any (λ x. q x && p x) xs
 any_filter p q [] = refl

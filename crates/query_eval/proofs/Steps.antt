@@ -1,10 +1,8 @@
 -- The last steps of functions.
-use Rattle.std.proofs.Common.{Bor, ◌≡◌, ℕ, ◌+◌, ◌<◌, Bool, true, false, ◌&&◌, ◌||◌, List, [], ◌∷◌, ◌++◌, length, get_or, take, drop, map, nat_eq, All, refl, sym, ap, subst, ◌∙◌, arith}
+use Rattle.std.proofs.Common.{Bor, ◌≡◌, ℕ, ◌+◌, ◌<◌, Bool, true, false, ◌&&◌, ◌||◌, List, [], ◌∷◌, ◌++◌, length, get_or, take, drop, map, nat_eq, refl, sym, ap, subst, ◌∙◌, arith}
 use Rattle.std.specs.List.{list_any, list_all, starts_with}
-use Rattle.std.specs.List.Sorted.{IsStrictlyIncreasing}
 use Rattle.std.specs.Cmp.{nat_cmp_total}
-use Rattle.std.specs.Ordering.{nat_cmp}
-use Rattle.std.specs.FinSet.{contains, from_list, intersection, difference, union, contains-intersection, contains-union, contains-from_list_nat, same_set, nat_cmp-IsAntisymmetric}
+use Rattle.std.specs.FinSet.{contains, from_list, intersection, difference, union, contains-intersection, contains-from_list_nat}
 use Rattle.std.proofs.lemmas.List.Folds.{list_all_more, Any-from_list_any}
 use Rattle.std.proofs.lemmas.Bool.{eqb-true, true≢false}
 use Rattle.doc_model.specs.Document.{Document}
@@ -16,7 +14,7 @@ use Rattle.query_tree.specs.declared.query.Query.{Query}
 use Rattle.query_tree.specs.declared.query.Query.TheViews as query
 use Rattle.doc_sets.specs.Sets.{Numbers, AreDocuments}
 use Rattle.doc_sets.specs.declared.TheConstants.{MAX_DOCS}
-use Rattle.doc_sets.proofs.Members.{increasing, all_documents}
+use Rattle.doc_sets.proofs.Members.{all_documents}
 use Rattle.segment_postings.specs.Numbered.{Numbered, IsNumbered, numbers}
 use Rattle.segment_postings.specs.declared.span.Span.TheVariants.{Strings, Tokens}
 use Rattle.segment_postings.specs.Spans.{takes, numbers_within}
@@ -42,17 +40,6 @@ common_more sets i x first so_far more n within is both same =
     assoc false b c = refl
 
 -- ---- numbers of documents that pass
-
-module _ (p : Document → Bool) (v : Numbered) (sound : IsNumbered v) (numbers : List ℕ) (is : numbers ≡ numbers_where p v.list) where
-  pub increasing_where : IsStrictlyIncreasing numbers
-  increasing_where = subst (λ (xs : List ℕ). IsStrictlyIncreasing xs) (sym is) (increasing _ (ascending_where p v sound))
-
-  pub documents_where : All (λ n. n < MAX_DOCS) numbers
-  documents_where = subst (λ (xs : List ℕ). All (λ n. n < MAX_DOCS) xs) (sym is) (all_documents _ (ascending_where p v sound))
-
-  pub set_where : from_list {R = nat_cmp} numbers ≡ found p v
-  unfolding found
-  set_where = ap (λ xs. from_list {R = nat_cmp} xs) is
 
 pub found_documents : (p : Document → Bool) (v : Numbered) → IsNumbered v → AreDocuments (found p v)
 unfolding found
@@ -81,17 +68,7 @@ pub found_within : (field : ℕ) (p : Key → Bool) (v : Numbered) → numbers_w
 unfolding numbers_within found
 found_within field p v = refl
 
--- ---- sets that begin with no number
-
-pub none_with : (s : Numbers) → union (from_list []) s ≡ s
-none_with s = same_set nat_cmp_total nat_cmp-IsAntisymmetric _ _ (λ n.
-    contains-union nat_cmp_total (from_list []) s n ∙ ap (λ b. b || contains s n) (contains-from_list_nat [] n))
-
-pub from_none : (start more : List ℕ) (s : Numbers) → start ≡ [] → from_list more ≡ union (from_list start) s → from_list more ≡ s
-from_none start more s e h = h ∙ ap (λ xs. union (from_list xs) s) e ∙ none_with s
-
-pub from_two : (start one two : List ℕ) (s t : Numbers) → start ≡ [] → from_list one ≡ union (from_list start) s → from_list two ≡ union (from_list one) t → from_list two ≡ union s t
-from_two start one two s t e h k = k ∙ ap (λ x. union x t) (from_none start one s e h)
+-- ---- texts that begin with another
 
 any_or : {A : Type 0} (p q : A → Bool) (xs : List A) → (list_any p xs || list_any q xs) ≡ list_any (λ x. p x || q x) xs
 any_or p q [] = refl

@@ -23,9 +23,9 @@ use std::alloc::Global;
 /// Fails only for want of memory. The view and its terms stay as they are; no sort value and no document is read.
 /// A key asks for its postings once, also where it fails, and `*:*` asks for nothing.
 ///
-/// It costs what the postings and places of its keys and words come to, for a range, a prefix or an existence the
-/// places of the keys between its ends and a sort of their documents' numbers, and for a Boolean query its parts'
-/// sets, each copied as often as the logarithm of their number.
+/// It costs what the places of its keys and words come to, for a range, a prefix or an existence those of the keys
+/// between its ends; for the set of each a step for each 64 numbers of the view, or a sort of its numbers where they are few;
+/// and for a Boolean query its parts' sets, each copied as often as the logarithm of their number.
 pub fn eval<P: Reads>(alloc: Global, probe: &mut P, query: &Query) -> Result<DocSet, NoMemory>
     ensures found { IfOk result (λ s. s ≡ answer query.now (P.view probe.old)) }
     ensures view { P.view probe.new ≡ P.view probe.old }

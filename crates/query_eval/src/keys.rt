@@ -8,7 +8,7 @@ ghost use Rattle.segment_postings.specs.Terms.{raised};
 ghost use Rattle.query_eval.specs.Found.{Finds};
 ghost use Rattle.query_eval.specs.Kept.{Kept};
 
-use crate::numbers::set_of;
+use crate::sets::either;
 use doc_sets::DocSet;
 use field_schema::{FieldNo, Key, NoMemory, Text};
 use query_tree::End;
@@ -27,12 +27,8 @@ pub(crate) fn term<P: Reads>(
     ensures kept { Kept P.view P.terms P.counted probe.old probe.new }
     ensures asked { (P.counted probe.new).postings ≡ raised (P.counted probe.old).postings }
 {
-    let mut numbers = Vec::new(alloc);
-    probe.add_numbers(&mut numbers, field, key)?;
-    let Ok(all) = DocSet::from_sorted(alloc, numbers.as_slice()) else {
-        return Err(NoMemory);
-    };
-    Ok(all)
+    let found = probe.numbers(alloc, field, key)?;
+    Ok(found)
 }
 
 // The documents that have a key between two ends.
@@ -47,9 +43,8 @@ pub(crate) fn between<P: Reads>(
     ensures found { Finds result (λ d. has_key d.values field (is_within low.now high.now)) (P.view probe.old) }
     ensures kept { Kept P.view P.terms P.counted probe.old probe.new }
 {
-    let mut numbers = Vec::new(alloc);
-    probe.add_numbers_within(&mut numbers, field, &Span::Between(low, high))?;
-    set_of(alloc, numbers)
+    let found = probe.numbers_within(alloc, field, &Span::Between(low, high))?;
+    Ok(found)
 }
 
 // The documents that have a string or a token that begins with a text.
@@ -63,8 +58,7 @@ pub(crate) fn beginning<P: Reads>(
     ensures found { Finds result (λ d. has_key d.values field (has_prefix prefix.now)) (P.view probe.old) }
     ensures kept { Kept P.view P.terms P.counted probe.old probe.new }
 {
-    let mut numbers = Vec::new(alloc);
-    probe.add_numbers_within(&mut numbers, field, &Span::Strings(prefix))?;
-    probe.add_numbers_within(&mut numbers, field, &Span::Tokens(prefix))?;
-    set_of(alloc, numbers)
+    let strings = probe.numbers_within(alloc, field, &Span::Strings(prefix))?;
+    let tokens = probe.numbers_within(alloc, field, &Span::Tokens(prefix))?;
+    either(alloc, &strings, &tokens)
 }

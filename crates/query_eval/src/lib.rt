@@ -3,7 +3,6 @@
 
 mod evaluating;
 mod keys;
-mod marks;
 mod matching;
 mod numbers;
 mod phrase;

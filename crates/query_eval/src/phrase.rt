@@ -72,7 +72,7 @@ fn in_turn<P: Reads>(
         held = followed(alloc, held.as_slice(), next.as_slice(), i + 1)?;
     }
     let numbers = documents(alloc, held.as_slice())?;
-    set_of(alloc, numbers)
+    set_of(alloc, numbers.as_slice())
 }
 
 // The positions of a word.

@@ -13,7 +13,6 @@ pub mod Packed
 pub mod Laying
 pub mod MovedPlaces
 pub mod TermWalks
-pub mod NumbersGathered
 pub mod SpanKeys
 pub mod SpanPlaces
 pub mod SpanNumbers

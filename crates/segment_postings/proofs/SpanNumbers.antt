@@ -1,11 +1,11 @@
--- The numbers at the places of the keys that a test takes are those of the live documents that have one.
-use Rattle.std.proofs.Common.{◌≡◌, ℕ, ◌+◌, ◌<◌, ◌≤◌, Bool, true, false, cond, not, ◌&&◌, ◌||◌, List, [], ◌∷◌, ◌++◌, length, get_or, map, filter, fold, nat_eq, refl, sym, ap, ◌∙◌, arith, All, inl, inr, eq-eqb, length-append}
-use Rattle.std.specs.Ordering.{nat_cmp}
+-- The numbers at the places of the keys that a test takes are those of the documents that have one.
+use Rattle.std.proofs.Common.{◌≡◌, ℕ, ◌+◌, ◌<◌, ◌≤◌, Bool, true, false, cond, ◌&&◌, ◌||◌, List, [], ◌∷◌, ◌++◌, length, get_or, take, map, filter, nat_eq, refl, sym, ap, ◌∙◌, arith, All, inl, inr, eq-eqb, length-append}
+use Rattle.std.specs.Ordering.{nat_cmp, eq_by_cmp}
 use Rattle.std.specs.Cmp.{nat_cmp_total}
 use Rattle.std.specs.List.{list_any, enumerate_from, flat_map}
-use Rattle.std.specs.FinSet.{contains, from_list, union, contains-from_list_nat, contains-union, same_set, nat_cmp-IsAntisymmetric}
+use Rattle.std.specs.FinSet.{contains, empty, from_list, insert, intersection, union, contains-empty, contains-from_list_nat, contains-insert, contains-intersection, contains-union, same_set, nat_cmp-IsAntisymmetric}
 use Rattle.std.proofs.lemmas.Bool.{and_parts, and_from, cases_Bool, eqb-true}
-use Rattle.std.proofs.lemmas.List.{map-append}
+use Rattle.std.proofs.lemmas.List.{map-append, take_more}
 use Rattle.std.proofs.lemmas.List.Elements.{filter-append, All-map, All-filter}
 use Rattle.std.proofs.lemmas.List.Folds.{list_any-append, list_any_at, Any-from_list_any}
 use Rattle.field_schema.specs.declared.key.Key.{Key}
@@ -19,7 +19,6 @@ use Rattle.query_tree.specs.KeysOfDocs.{keys_of_value}
 use Rattle.query_tree.specs.Matches.{has_key}
 use Rattle.segment_postings.specs.declared.occurrence.Occurrence.{Occurrence}
 use Rattle.segment_postings.specs.declared.occurrence.Place.{Place}
-use Rattle.segment_postings.specs.Groups.{last_of, is_last, told_number, number_one, numbers_at}
 use Rattle.segment_postings.specs.Segments.{Part, occurrence, of_value, of_doc, occurrences, with_key, field_at, AreIndexes}
 use Rattle.segment_postings.specs.Spans.{numbers_with, numbers_among, numbers_within}
 use Rattle.segment_postings.specs.Views.{all_docs, numbered}
@@ -50,68 +49,39 @@ from_append xs ys = same_set nat_cmp_total nat_cmp-IsAntisymmetric _ _ (λ n.
     ∙ list_any-append (λ y. nat_eq y n) xs ys
     ∙ sym (contains-union nat_cmp_total (from_list xs) (from_list ys) n ∙ (λ i. contains-from_list_nat xs n i || contains-from_list_nat ys n i)))
 
-pub with_none : (s : Numbers) → union s (from_list []) ≡ s
-with_none s = same_set nat_cmp_total nat_cmp-IsAntisymmetric _ _ (λ n.
-    contains-union nat_cmp_total s (from_list []) n ∙ ap (λ b. contains s n || b) (contains-from_list_nat [] n) ∙ or_false (contains s n))
+inserted : (s : Numbers) (x : ℕ) → insert s x ≡ union s (from_list (x ∷ []))
+inserted s x = same_set nat_cmp_total nat_cmp-IsAntisymmetric _ _ (λ n.
+    contains-insert nat_cmp_total s x n
+    ∙ turned (eq_by_cmp nat_cmp n x) (contains s n)
+    ∙ sym (contains-union nat_cmp_total s (from_list (x ∷ [])) n
+    ∙ ap (λ b. contains s n || b) (contains-insert nat_cmp_total empty x n ∙ ap (λ b. eq_by_cmp nat_cmp n x || b) (contains-empty nat_cmp n))))
+  where
+    turned : (a b : Bool) → (a || b) ≡ (b || (a || false))
+    turned true true = refl
+    turned true false = refl
+    turned false true = refl
+    turned false false = refl
 
 -- ---- the numbers at places
 
-abbrev among : List ℕ → ℕ → Bool
-among ns n = list_any (λ y. nat_eq y n) ns
+-- the numbers of the documents that places stand in
+abbrev pub numbers_of_places : ℕ → List Place → List ℕ
+numbers_of_places base ps = map (λ p. base + p.doc) ps
 
-last_among : (ns : List ℕ) (n : ℕ) → is_last (last_of ns) n ≡ true → among ns n ≡ true
-last_among [] n e = absurd (cc)
-last_among (m ∷ []) n e = ap (λ b. b || false) e
-last_among (m ∷ k ∷ ns) n e = ap (λ b. nat_eq m n || b) (last_among (k ∷ ns) n e) ∙ or_true (nat_eq m n)
-  where
-    or_true : (b : Bool) → (b || true) ≡ true
-    or_true true = refl
-    or_true false = refl
+pub no_places : (base : ℕ) (init : Numbers) → init ≡ union init (from_list (numbers_of_places base []))
+no_places base init = sym (same_set nat_cmp_total nat_cmp-IsAntisymmetric _ _ (λ n.
+    contains-union nat_cmp_total init (from_list []) n ∙ ap (λ b. contains init n || b) (contains-from_list_nat [] n) ∙ or_false (contains init n)))
 
--- a place more, where the number is m
-one_more : (live : Numbers) (ns : List ℕ) (m n : ℕ) → among (ns ++ told_number live (last_of ns) m) n ≡ (among ns n || (contains live n && nat_eq m n))
-one_more live ns m n =
-    list_any-append (λ y. nat_eq y n) ns (told_number live (last_of ns) m)
-    ∙ (elim (cases_Bool (nat_eq m n)) [
-      | inl same ↦
-          let is : m ≡ n = eqb-true m n same in
-          elim (contains live m) as (λ b. contains live m ≡ b → (among ns n || among (cond (b && not (is_last (last_of ns) m)) (m ∷ []) []) n) ≡ (among ns n || (contains live n && nat_eq m n))) [
-            | true ↦ λ e.
-                let alive : (contains live n && nat_eq m n) ≡ true = and_from (contains live n) (nat_eq m n) (ap (contains live) (sym is) ∙ e) same in
-                ((elim (is_last (last_of ns) m) as (λ l. is_last (last_of ns) m ≡ l → (among ns n || among (cond (not l) (m ∷ []) []) n) ≡ (among ns n || true)) [
-                  | true ↦ λ l.
-                      let there : among ns n ≡ true = ap (among ns) (sym is) ∙ last_among ns m l in
-                      (λ j. there j || false) ∙ sym (λ j. there j || true)
-                  | false ↦ λ l. ap (λ b. among ns n || (b || false)) same
-                ] refl) ∙ ap (λ b. among ns n || b) (sym alive))
-            | false ↦ λ e. ap (λ b. among ns n || b) (sym (ap (λ b. b && nat_eq m n) (ap (contains live) (sym is) ∙ e)))
-          ] refl
-      | inr other ↦
-          (elim (contains live m && not (is_last (last_of ns) m)) as (λ b. (among ns n || among (cond b (m ∷ []) []) n) ≡ (among ns n || false)) [
-            | true ↦ ap (λ b. among ns n || (b || false)) other
-            | false ↦ refl
-          ]) ∙ ap (λ b. among ns n || b) (sym (ap (λ b. contains live n && b) other ∙ and_false (contains live n)))
-    ])
-  where
-    and_false : (b : Bool) → (b && false) ≡ false
-    and_false true = refl
-    and_false false = refl
-
-spread : (a c x y : Bool) → ((a || (c && x)) || (c && y)) ≡ (a || (c && (x || y)))
-spread true c x y = refl
-spread false true x y = refl
-spread false false x y = refl
-
-among_from : (live : Numbers) (base : ℕ) (ns : List ℕ) (ps : List Place) (n : ℕ) → among (fold (number_one live base) ns ps) n ≡ (among ns n || (contains live n && list_any (λ p. nat_eq (base + p.doc) n) ps))
-among_from live base ns [] n = sym (ap (λ b. among ns n || b) (and_false (contains live n)) ∙ or_false (among ns n))
-  where
-    and_false : (b : Bool) → (b && false) ≡ false
-    and_false true = refl
-    and_false false = refl
-among_from live base ns (p ∷ ps) n =
-    among_from live base (number_one live base ns p) ps n
-    ∙ ap (λ b. b || (contains live n && list_any (λ p. nat_eq (base + p.doc) n) ps)) (one_more live ns (base + p.doc) n)
-    ∙ spread (among ns n) (contains live n) (nat_eq (base + p.doc) n) (list_any (λ p. nat_eq (base + p.doc) n) ps)
+pub place_more : (base : ℕ) (init found new : Numbers) (ps : List Place) (i : ℕ) (d : Place) → i < length ps → found ≡ union init (from_list (numbers_of_places base (take i ps))) → new ≡ insert found (base + ((get_or ps i d).doc)) →
+    new ≡ union init (from_list (numbers_of_places base (take (i + 1) ps)))
+place_more base init found new ps i d h so_far e =
+    let p : Place = get_or ps i d in
+    let list : numbers_of_places base (take (i + 1) ps) ≡ numbers_of_places base (take i ps) ++ (base + p.doc) ∷ [] =
+    ap (numbers_of_places base) (take_more ps i d h) ∙ map-append (λ (q : Place). base + q.doc) (take i ps) (p ∷ []) in
+    e ∙ ap (λ s. insert s (base + p.doc)) so_far
+    ∙ inserted (union init (from_list (numbers_of_places base (take i ps)))) (base + p.doc)
+    ∙ union_assoc init (from_list (numbers_of_places base (take i ps))) (from_list ((base + p.doc) ∷ []))
+    ∙ ap (union init) (sym (from_append (numbers_of_places base (take i ps)) ((base + p.doc) ∷ [])) ∙ ap (λ ns. from_list {R = nat_cmp} ns) (sym list))
 
 -- ---- what some occurrence says
 
@@ -191,6 +161,9 @@ module _ (p : Key → Bool) (field base n : ℕ) where
 
 -- ---- the numbers of a part
 
+abbrev among : List ℕ → ℕ → Bool
+among ns n = list_any (λ y. nat_eq y n) ns
+
 among_with : (live : Numbers) (field : ℕ) (p : Key → Bool) (es : List (ℕ × Document)) (n : ℕ) → among (numbers_with field p (filter (λ e. contains live e.0) es)) n ≡ (contains live n && list_any (λ e. nat_eq e.0 n && has_key e.1.values field p) es)
 among_with live field p es n =
     any_map (λ y. nat_eq y n) (λ (e : ℕ × Document). e.0) (filter (λ e. has_key e.1.values field p) (filter (λ e. contains live e.0) es))
@@ -232,30 +205,45 @@ among_with live field p es n =
         joined true x y = refl
         joined false x y = refl
 
+any_turned : (p q : ℕ × Document → Bool) (xs : List (ℕ × Document)) → list_any (λ e. p e && q e) xs ≡ list_any (λ e. q e && p e) xs
+any_turned p q [] = refl
+any_turned p q (e ∷ xs) = (λ j. and_turned (p e) (q e) j || any_turned p q xs j)
+  where
+    and_turned : (a b : Bool) → (a && b) ≡ (b && a)
+    and_turned true true = refl
+    and_turned true false = refl
+    and_turned false true = refl
+    and_turned false false = refl
+
+-- the number is that of a document with a key that is taken
+among_all : (base field : ℕ) (p : Key → Bool) (ds : List Document) (n : ℕ) → contains (numbers_among base field p ds) n ≡ list_any (λ e. nat_eq e.0 n && has_key e.1.values field p) (enumerate_from base ds)
+unfolding numbers_among
+among_all base field p ds n =
+    contains-from_list_nat (numbers_with field p (enumerate_from base ds)) n
+    ∙ any_map (λ y. nat_eq y n) (λ (e : ℕ × Document). e.0) (filter (λ e. has_key e.1.values field p) (enumerate_from base ds))
+    ∙ any_kept (λ (e : ℕ × Document). nat_eq e.0 n) (λ e. has_key e.1.values field p) (enumerate_from base ds)
+    ∙ any_turned (λ e. has_key e.1.values field p) (λ e. nat_eq e.0 n) (enumerate_from base ds)
+
 -- the places of the keys that are taken
 abbrev pub places_taken : (Key → Bool) → List Occurrence → List Place
 places_taken p os = map (λ o. o.place) (filter (λ o. p o.key) os)
 
-pub part_set : (ds : List Document) (fs : List (List Occurrence)) (field base : ℕ) (p : Key → Bool) (live : Numbers) → AreIndexes ds fs → from_list {R = nat_cmp} (numbers_at live base (places_taken p (field_at fs field))) ≡ numbers_among live base field p ds
-unfolding numbers_among
-part_set ds fs field base p live is = same_set nat_cmp_total nat_cmp-IsAntisymmetric _ _ (λ n.
+part_set : (ds : List Document) (fs : List (List Occurrence)) (field base : ℕ) (p : Key → Bool) → AreIndexes ds fs → from_list {R = nat_cmp} (numbers_of_places base (places_taken p (field_at fs field))) ≡ numbers_among base field p ds
+part_set ds fs field base p is = same_set nat_cmp_total nat_cmp-IsAntisymmetric _ _ (λ n.
     let start : base + 0 ≡ base = omega arith in
-    contains-from_list_nat (numbers_at live base (places_taken p (field_at fs field))) n
-    ∙ among_from live base [] (places_taken p (field_at fs field)) n
-    ∙ ap (λ b. contains live n && b) (
-    any_map (λ (q : Place). nat_eq (base + q.doc) n) (λ (o : Occurrence). o.place) (filter (λ o. p o.key) (field_at fs field))
+    contains-from_list_nat (numbers_of_places base (places_taken p (field_at fs field))) n
+    ∙ any_map (λ y. nat_eq y n) (λ (q : Place). base + q.doc) (places_taken p (field_at fs field))
+    ∙ any_map (λ (q : Place). nat_eq (base + q.doc) n) (λ (o : Occurrence). o.place) (filter (λ o. p o.key) (field_at fs field))
     ∙ any_kept (λ (o : Occurrence). nat_eq (base + o.place.doc) n) (λ o. p o.key) (field_at fs field)
     ∙ any_same (λ o. p o.key && nat_eq (base + o.place.doc) n) (field_at fs field) (occurrences field ds) ((is field).same)
     ∙ at_docs p field base n 0 ds
-    ∙ ap (λ m. list_any (λ e. nat_eq e.0 n && has_key e.1.values field p) (enumerate_from m ds)) start)
-    ∙ sym (contains-from_list_nat (numbers_with field p (filter (λ e. contains live e.0) (enumerate_from base ds))) n ∙ among_with live field p (enumerate_from base ds) n))
+    ∙ ap (λ m. list_any (λ e. nat_eq e.0 n && has_key e.1.values field p) (enumerate_from m ds)) start
+    ∙ sym (among_all base field p ds n))
 
 -- what is added at the places of a part
-pub adds_part : (ds : List Document) (fs : List (List Occurrence)) (field base : ℕ) (p : Key → Bool) (live : Numbers) (old new : List ℕ) → AreIndexes ds fs → new ≡ old ++ numbers_at live base (places_taken p (field_at fs field)) → from_list {R = nat_cmp} new ≡ union (from_list old) (numbers_among live base field p ds)
-adds_part ds fs field base p live old new is e =
-    ap (λ xs. from_list {R = nat_cmp} xs) e
-    ∙ from_append old (numbers_at live base (places_taken p (field_at fs field)))
-    ∙ ap (union (from_list old)) (part_set ds fs field base p live is)
+pub adds_part : (ds : List Document) (fs : List (List Occurrence)) (field base : ℕ) (p : Key → Bool) (old new : Numbers) (ps : List Place) → AreIndexes ds fs → ps ≡ places_taken p (field_at fs field) → new ≡ union old (from_list (numbers_of_places base ps)) → new ≡ union old (numbers_among base field p ds)
+adds_part ds fs field base p old new ps is same e =
+    e ∙ ap (λ qs. union old (from_list (numbers_of_places base qs))) same ∙ ap (union old) (part_set ds fs field base p is)
 
 -- the documents of the places are among those that there are
 pub taken_below : (ds : List Document) (fs : List (List Occurrence)) (field base : ℕ) (p : Key → Bool) → AreIndexes ds fs → base + length ds ≤ MAX_DOCS → All (λ q. base + q.doc < MAX_DOCS) (places_taken p (field_at fs field))
@@ -276,38 +264,47 @@ taken_below ds fs field base p is most =
 
 -- ---- the loop over parts
 
-among_both : (live : Numbers) (base field : ℕ) (p : Key → Bool) (xs ys : List Document) → numbers_among live base field p (xs ++ ys) ≡ union (numbers_among live base field p xs) (numbers_among live (base + length xs) field p ys)
+among_both : (base field : ℕ) (p : Key → Bool) (xs ys : List Document) → numbers_among base field p (xs ++ ys) ≡ union (numbers_among base field p xs) (numbers_among (base + length xs) field p ys)
 unfolding numbers_among
-among_both live base field p xs ys =
-    let one : List (ℕ × Document) = filter (λ e. contains live e.0) (enumerate_from base xs) in
-    let two : List (ℕ × Document) = filter (λ e. contains live e.0) (enumerate_from (base + length xs) ys) in
-    ap (λ es. from_list {R = nat_cmp} (numbers_with field p (filter (λ e. contains live e.0) es))) (enumerate-append base xs ys)
-    ∙ ap (λ es. from_list {R = nat_cmp} (numbers_with field p es)) (filter-append (λ e. contains live e.0) (enumerate_from base xs) (enumerate_from (base + length xs) ys))
+among_both base field p xs ys =
+    let one : List (ℕ × Document) = enumerate_from base xs in
+    let two : List (ℕ × Document) = enumerate_from (base + length xs) ys in
+    ap (λ es. from_list {R = nat_cmp} (numbers_with field p es)) (enumerate-append base xs ys)
     ∙ ap (λ es. from_list {R = nat_cmp} (map (λ e. e.0) es)) (filter-append (λ e. has_key e.1.values field p) one two)
     ∙ ap (λ ns. from_list {R = nat_cmp} ns) (map-append (λ (e : ℕ × Document). e.0) (filter (λ e. has_key e.1.values field p) one) (filter (λ e. has_key e.1.values field p) two))
     ∙ from_append (numbers_with field p one) (numbers_with field p two)
 
--- the numbers of the documents of some parts beside others, and how many documents these have
-pub record PartSets (live : Numbers) (field : ℕ) (p : Key → Bool) (init : List ℕ) (ps : List Part) (base : ℕ) (found : List ℕ) : Type 0 where
+-- the numbers of the documents of some parts, and how many documents these have
+pub record PartSets (field : ℕ) (p : Key → Bool) (ps : List Part) (base : ℕ) (found : Numbers) : Type 0 where
   pub start : base ≡ length (all_docs ps)
-  pub is : from_list {R = nat_cmp} found ≡ union (from_list init) (numbers_among live 0 field p (all_docs ps))
+  pub is : found ≡ numbers_among 0 field p (all_docs ps)
 
-pub no_part_sets : (live : Numbers) (field : ℕ) (p : Key → Bool) (init : List ℕ) → PartSets live field p init [] 0 init
+pub no_part_sets : (field : ℕ) (p : Key → Bool) (found : Numbers) → found ≡ empty → PartSets field p [] 0 found
 unfolding numbers_among
-no_part_sets live field p init = record { start = refl; is = sym (with_none (from_list init)) }
+no_part_sets field p found e = record { start = refl; is = e }
 
-pub set_of_part : (live : Numbers) (field : ℕ) (p : Key → Bool) (init : List ℕ) (ps : List Part) (q : Part) (base : ℕ) (found new : List ℕ) → PartSets live field p init ps base found → from_list {R = nat_cmp} new ≡ union (from_list found) (numbers_among live base field p q.docs) → PartSets live field p init (ps ++ q ∷ []) (base + length q.docs) new
-set_of_part live field p init ps q base found new so_far e =
+pub set_of_part : (field : ℕ) (p : Key → Bool) (ps : List Part) (q : Part) (base : ℕ) (found new : Numbers) → PartSets field p ps base found → new ≡ union found (numbers_among base field p q.docs) → PartSets field p (ps ++ q ∷ []) (base + length q.docs) new
+set_of_part field p ps q base found new so_far e =
     let at : base ≡ 0 + length (all_docs ps) = omega (arith, so_far.start) in
     record {
       start = ap (λ n. n + length q.docs) so_far.start ∙ sym (length-append (all_docs ps) q.docs) ∙ ap length (sym (docs_more ps q));
       is =
           e
-          ∙ (λ j. union (so_far.is j) (numbers_among live (at j) field p q.docs))
-          ∙ union_assoc (from_list init) (numbers_among live 0 field p (all_docs ps)) (numbers_among live (0 + length (all_docs ps)) field p q.docs)
-          ∙ ap (union (from_list init)) (sym (among_both live 0 field p (all_docs ps) q.docs) ∙ ap (numbers_among live 0 field p) (sym (docs_more ps q)));
+          ∙ (λ j. union (so_far.is j) (numbers_among (at j) field p q.docs))
+          ∙ sym (among_both 0 field p (all_docs ps) q.docs) ∙ ap (numbers_among 0 field p) (sym (docs_more ps q));
     }
 
-pub numbers_of_view : (live : Numbers) (ds : List Document) (field : ℕ) (p : Key → Bool) → numbers_among live 0 field p ds ≡ numbers_within (numbered live ds) field p
-unfolding numbers_among numbers_within
-numbers_of_view live ds field p = refl
+-- those that are live
+pub live_numbers : (live : Numbers) (ds : List Document) (field : ℕ) (p : Key → Bool) → intersection (numbers_among 0 field p ds) live ≡ numbers_within (numbered live ds) field p
+unfolding numbers_within
+live_numbers live ds field p = same_set nat_cmp_total nat_cmp-IsAntisymmetric _ _ (λ n.
+    contains-intersection nat_cmp_total (numbers_among 0 field p ds) live n
+    ∙ ap (λ b. b && contains live n) (among_all 0 field p ds n)
+    ∙ and_turned (list_any (λ e. nat_eq e.0 n && has_key e.1.values field p) (enumerate_from 0 ds)) (contains live n)
+    ∙ sym (contains-from_list_nat (numbers_with field p (filter (λ e. contains live e.0) (enumerate_from 0 ds))) n ∙ among_with live field p (enumerate_from 0 ds) n))
+  where
+    and_turned : (a b : Bool) → (a && b) ≡ (b && a)
+    and_turned true true = refl
+    and_turned true false = refl
+    and_turned false true = refl
+    and_turned false false = refl

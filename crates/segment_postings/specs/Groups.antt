@@ -1,5 +1,5 @@
 -- Postings gathered from the places of a key, document by document.
-use Rattle.std.specs.Prelude.{ℕ, ◌+◌, ◌<◌, List, [], ◌∷◌, ◌++◌, Bool, true, false, not, ◌&&◌, Option, Some, None, fold, nat_eq, if◌then◌else◌}
+use Rattle.std.specs.Prelude.{ℕ, ◌+◌, ◌<◌, List, [], ◌∷◌, ◌++◌, Bool, true, false, fold, nat_eq, if◌then◌else◌}
 use Rattle.std.specs.FinSet.{contains}
 use Rattle.field_schema.specs.declared.key.Key.{Key}
 use Rattle.field_schema.specs.declared.key.Key.TheVariants as key
@@ -41,30 +41,3 @@ gather_one live base told ps p =
 -- the postings of places that stand in the order of their documents
 abbrev pub gathered : Numbers → ℕ → Bool → List Posting → List Place → List Posting
 gathered live base told ps places = fold (gather_one live base told) ps places
-
--- the last of some numbers
-abbrev pub last_of : List ℕ → Option ℕ
-last_of [] = None
-last_of (n ∷ []) = Some n
-last_of (n ∷ m ∷ ns) = last_of (m ∷ ns)
-
--- the last number is this one
-abbrev pub is_last : Option ℕ → ℕ → Bool
-is_last None n = false
-is_last (Some m) n = nat_eq m n
-
--- a number, where its document is live and it is not the last one
-abbrev pub told_number : Numbers → Option ℕ → ℕ → List ℕ
-told_number live last n = if contains live n && not (is_last last n) then n ∷ [] else []
-
--- the last number then
-abbrev pub next_last : Numbers → Option ℕ → ℕ → Option ℕ
-next_last live last n = if contains live n then Some n else last
-
--- a place more, of which the number alone is told
-abbrev pub number_one : Numbers → ℕ → List ℕ → Place → List ℕ
-number_one live base ns p = ns ++ told_number live (last_of ns) (base + p.doc)
-
--- the numbers of places that stand in the order of their documents
-abbrev pub numbers_at : Numbers → ℕ → List Place → List ℕ
-numbers_at live base places = fold (number_one live base) [] places

@@ -1,7 +1,7 @@
 -- Keys that stand side by side in the order of keys, and the documents that have one of some keys.
 use Rattle.std.specs.Prelude.{ℕ, List, Bool, false, not, ◌&&◌, nat_eq, map, filter}
 use Rattle.std.specs.List.{enumerate_from, starts_with}
-use Rattle.std.specs.FinSet.{contains, from_list}
+use Rattle.std.specs.FinSet.{from_list}
 use Rattle.field_schema.specs.declared.key.Key.{Key}
 use Rattle.field_schema.specs.declared.key.Key.TheVariants as key
 use Rattle.doc_model.specs.Document.{Document}
@@ -39,7 +39,6 @@ numbers_with field p list = map (λ e. e.0) (filter (λ e. has_key e.1.values fi
 unfoldable pub numbers_within : Numbered → ℕ → (Key → Bool) → Numbers
 numbers_within v field p = from_list (numbers_with field p v.list)
 
--- the same of the live ones of documents that are numbered from `base` on
-unfoldable pub numbers_among : Numbers → ℕ → ℕ → (Key → Bool) → List Document → Numbers
-numbers_among live base field p docs =
-    from_list (numbers_with field p (filter (λ e. contains live e.0) (enumerate_from base docs)))
+-- the same of documents that are numbered from `base` on
+unfoldable pub numbers_among : ℕ → ℕ → (Key → Bool) → List Document → Numbers
+numbers_among base field p docs = from_list (numbers_with field p (enumerate_from base docs))

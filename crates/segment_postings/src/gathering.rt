@@ -1,13 +1,13 @@
 //! Postings, gathered from the occurrences of a key.
-ghost use Rattle.std.specs.Prelude.{◌≡◌, ℕ, ◌+◌, ◌<◌, List, ◌∷◌, ◌++◌, [], IfOk, OnOk, All};
+ghost use Rattle.std.specs.Prelude.{◌≡◌, ℕ, ◌+◌, ◌<◌, ◌≤◌, List, ◌∷◌, ◌++◌, [], IfOk, OnOk, All, map};
+ghost use Rattle.std.specs.FinSet as set;
 ghost use Rattle.doc_sets.specs.declared.TheConstants.{MAX_DOCS};
 ghost use Rattle.segment_postings.specs.Groups.{has_places, gathered, gather_one, put_place, told_at};
-ghost use Rattle.segment_postings.specs.Groups.{numbers_at, told_number, next_last};
 ghost use Rattle.segment_postings.specs.Positions.{told_position, positions_at};
 
 use crate::occurrence::Place;
 use crate::posting::{Places, Position, Posting};
-use doc_sets::{DocNo, DocSet};
+use doc_sets::{DocNo, DocSet, Gathered};
 use field_schema::{Key, NoMemory};
 use std::alloc::Global;
 
@@ -31,39 +31,28 @@ pub(crate) fn gather(
     Ok(())
 }
 
-/// Adds the numbers of the live documents that places stand in, of which the first document has the number `base`.
-/// It costs the number of places.
+/// Adds the numbers of the documents that places stand in, of which the first has the number `base`. Each number that is added is
+/// below `end`. It costs the number of places.
 pub(crate) fn add_numbers(
-    found: &mut Vec<DocNo>,
-    live: &DocSet,
+    alloc: Global,
+    found: &mut Gathered,
     base: DocNo,
+    end: u32,
     places: &[Place],
 ) -> Result<(), NoMemory>
-    requires { All (λ p. base + p.doc < MAX_DOCS) places.now }
-    ensures { OnOk result (found.new.items ≡ found.old.items ++ numbers_at live.now base places.now) }
+    requires most { end ≤ MAX_DOCS }
+    requires documents { All (λ p. base + p.doc < MAX_DOCS) places.now }
+    ensures { OnOk result (found.new ≡ set.union found.old (set.from_list (map (λ p. base + p.doc) places.now))) }
 {
-    let mut last = None;
+    let Ok(()) = found.expect(alloc, places.len(), end) else {
+        return Err(NoMemory);
+    };
     for place in places {
-        last = add_number(found, live, last, base + place.doc)?;
+        let Ok(()) = found.add(base + place.doc) else {
+            return Err(NoMemory);
+        };
     }
     Ok(())
-}
-
-// Adds a number, where its document is live and it is not the last one; and the last number then.
-fn add_number(
-    found: &mut Vec<DocNo>,
-    live: &DocSet,
-    last: Option<DocNo>,
-    number: DocNo,
-) -> Result<Option<DocNo>, NoMemory>
-    ensures found { IfOk result (λ l. found.new.items ≡ found.old.items ++ told_number live.now last number) }
-    ensures last { IfOk result (λ l. l ≡ next_last live.now last number) }
-{
-    if !live.has(number) || last == Some(number) {
-        return Ok(last);
-    }
-    found.push(number)?;
-    Ok(Some(number))
 }
 
 /// Adds the positions of the places in live documents, of which the first document has the number `base`. It costs the number of

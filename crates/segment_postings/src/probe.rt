@@ -59,14 +59,9 @@ impl<'a> Reads for Probe<'a> {
         self.view.postings(alloc, field, key)
     }
 
-    fn add_numbers(
-        &mut self,
-        found: &mut Vec<DocNo>,
-        field: FieldNo,
-        key: &Key,
-    ) -> Result<(), NoMemory> {
+    fn numbers(&mut self, alloc: Global, field: FieldNo, key: &Key) -> Result<DocSet, NoMemory> {
         self.counts.postings = self.counts.postings.saturating_add(1);
-        self.view.add_numbers(found, field, key)
+        self.view.numbers(alloc, field, key)
     }
 
     fn add_positions(
@@ -79,14 +74,14 @@ impl<'a> Reads for Probe<'a> {
         self.view.add_positions(found, field, key)
     }
 
-    fn add_numbers_within(
+    fn numbers_within(
         &mut self,
-        found: &mut Vec<DocNo>,
+        alloc: Global,
         field: FieldNo,
         span: &Span,
-    ) -> Result<(), NoMemory> {
+    ) -> Result<DocSet, NoMemory> {
         self.counts.postings = self.counts.postings.saturating_add(1);
-        self.view.add_numbers_within(found, field, span)
+        self.view.numbers_within(alloc, field, span)
     }
 
     fn terms_from(

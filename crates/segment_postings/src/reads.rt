@@ -3,6 +3,7 @@ ghost use Rattle.std.specs.FinSet as set;
 ghost use Rattle.std.specs.Arc.{arc_value};
 ghost use Rattle.std.specs.Option.{option_and_then};
 ghost use Rattle.field_schema.specs.declared.key.Key.{Key};
+ghost use Rattle.field_schema.specs.Keys.{key_eq};
 ghost use Rattle.segment_postings.specs.declared.posting.Counts.{Counts};
 ghost use Rattle.segment_postings.specs.Numbered.{Numbered, IsNumbered, IsLive, numbers, doc_at, sort_value};
 ghost use Rattle.segment_postings.specs.Positions.{positions_of};
@@ -20,7 +21,7 @@ use std::sync::Arc;
 
 /// What an evaluation reads of a view.
 ///
-/// No call changes the view or its terms. `postings`, `add_numbers`, `add_positions`, `add_numbers_within` and `terms_from`
+/// No call changes the view or its terms. `postings`, `numbers`, `add_positions`, `numbers_within` and `terms_from`
 /// raise the first count by one, `value` the second and `stored` the third, also where memory is wanting; a count at its
 /// greatest number stays.
 pub trait Reads {
@@ -58,16 +59,13 @@ pub trait Reads {
         ensures values_count { (counted self.new).values ≡ (counted self.old).values }
         ensures stored_count { (counted self.new).stored ≡ (counted self.old).stored };
 
-    /// Adds the numbers of the live documents that have a key in a field, ascending, behind others. It asks for the key's
-    /// postings, and makes none. Fails only for want of memory.
-    fn add_numbers(
-        &mut self,
-        found: &mut Vec<DocNo>,
-        field: FieldNo,
-        key: &Key,
-    ) -> Result<(), NoMemory>
-        ensures numbers { OnOk result (found.new.items ≡ found.old.items
-            ++ map (λ p. p.doc) (postings_of (view self.old) field key.now)) }
+    /// The numbers of the live documents that have a key in a field. It asks for the key's postings, and makes none. Fails only
+    /// for want of memory.
+    ///
+    /// It costs for each segment the logarithm of the number of the field's keys, and a step for each place of the key; and
+    /// for each 64 numbers of the view where many of them are found, or else a sort of those that are.
+    fn numbers(&mut self, alloc: Global, field: FieldNo, key: &Key) -> Result<DocSet, NoMemory>
+        ensures numbers { IfOk result (λ s. s ≡ numbers_within (view self.old) field (key_eq key.now)) }
         ensures view { view self.new ≡ view self.old }
         ensures terms { terms self.new ≡ terms self.old }
         ensures postings_count { (counted self.new).postings ≡ raised (counted self.old).postings }
@@ -92,19 +90,18 @@ pub trait Reads {
         ensures values_count { (counted self.new).values ≡ (counted self.old).values }
         ensures stored_count { (counted self.new).stored ≡ (counted self.old).stored };
 
-    /// Adds the numbers of the live documents that have a key in a field that a span takes, behind others. They come in any
-    /// order, and one may come more than once. Fails only for want of memory.
+    /// The numbers of the live documents that have a key in a field that a span takes. Fails only for want of memory.
     ///
     /// It costs for each segment the logarithm of the number of the field's keys, and a step for each place of the keys that
-    /// the span takes. No key is copied.
-    fn add_numbers_within(
+    /// the span takes; and for each 64 numbers of the view where many of them are found, or else a sort of those that are. No key is
+    /// copied.
+    fn numbers_within(
         &mut self,
-        found: &mut Vec<DocNo>,
+        alloc: Global,
         field: FieldNo,
         span: &Span,
-    ) -> Result<(), NoMemory>
-        ensures numbers { OnOk result (set.from_list found.new.items ≡ set.union (set.from_list found.old.items)
-            (numbers_within (view self.old) field (takes span.now))) }
+    ) -> Result<DocSet, NoMemory>
+        ensures numbers { IfOk result (λ s. s ≡ numbers_within (view self.old) field (takes span.now)) }
         ensures view { view self.new ≡ view self.old }
         ensures terms { terms self.new ≡ terms self.old }
         ensures postings_count { (counted self.new).postings ≡ raised (counted self.old).postings }

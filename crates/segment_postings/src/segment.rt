@@ -2,6 +2,7 @@
 ghost use Rattle.std.specs.Prelude.{◌≡◌, ℕ, ◌+◌, ◌<◌, ◌≤◌, ◌++◌, [], IfOk, OnOk, All, not, map, filter, fold, take, length};
 ghost use Rattle.std.specs.Arc.{arc_value};
 ghost use Rattle.std.specs.FinSet as set;
+ghost use Rattle.field_schema.specs.Keys.{key_eq};
 ghost use Rattle.field_schema.specs.Values.{values_at};
 ghost use Rattle.doc_sets.specs.declared.TheConstants.{MAX_DOCS};
 ghost use Rattle.segment_postings.specs.Positions.{positions_among};
@@ -21,7 +22,7 @@ use crate::posting::{Position, Posting};
 use crate::renumbering::moves;
 use crate::span::Span;
 use doc_model::Doc;
-use doc_sets::{DocNo, DocSet, MAX_DOCS};
+use doc_sets::{DocNo, DocSet, Gathered, MAX_DOCS};
 use field_schema::{FieldNo, Key, NoMemory};
 use std::alloc::Global;
 use std::marker::Model;
@@ -124,23 +125,26 @@ impl Segment {
         Ok(())
     }
 
-    /// Adds the numbers of the live documents with a key, of which the first has the number `base`.
+    /// Adds the numbers of the documents with a key, deleted ones too, of which the first document has the number `base` and all are
+    /// below `end`.
     ///
     /// It costs the logarithm of the number of the field's keys, and the key's places.
     pub fn add_numbers(
         &self,
-        found: &mut Vec<DocNo>,
-        live: &DocSet,
+        alloc: Global,
+        found: &mut Gathered,
         base: DocNo,
+        end: u32,
         field: FieldNo,
         key: &Key,
     ) -> Result<(), NoMemory>
-        requires { base + length self.now.docs ≤ MAX_DOCS }
-        ensures { OnOk result (found.new.items ≡ found.old.items
-            ++ map (λ p. p.doc) (postings_among live.now base field key.now self.now.docs)) }
+        requires most { end ≤ MAX_DOCS }
+        requires documents { base + length self.now.docs ≤ MAX_DOCS }
+        ensures { OnOk result (found.new ≡ set.union found.old
+            (numbers_among base field (key_eq key.now) self.now.docs)) }
     {
         let places = places_in(self.fields.as_slice(), field, key);
-        add_numbers(found, live, base, places)?;
+        add_numbers(alloc, found, base, end, places)?;
         Ok(())
     }
 
@@ -164,23 +168,26 @@ impl Segment {
         Ok(())
     }
 
-    /// Adds the numbers of the live documents with a key that a span takes, of which the first document has the number `base`.
+    /// Adds the numbers of the documents with a key that a span takes, deleted ones too, of which the first document has the number
+    /// `base` and all are below `end`.
     ///
     /// It costs the logarithm of the number of the field's keys, and the places of those that the span takes.
     pub fn add_numbers_within(
         &self,
-        found: &mut Vec<DocNo>,
-        live: &DocSet,
+        alloc: Global,
+        found: &mut Gathered,
         base: DocNo,
+        end: u32,
         field: FieldNo,
         span: &Span,
     ) -> Result<(), NoMemory>
-        requires { base + length self.now.docs ≤ MAX_DOCS }
-        ensures { OnOk result (set.from_list found.new.items ≡ set.union (set.from_list found.old.items)
-            (numbers_among live.now base field (takes span.now) self.now.docs)) }
+        requires most { end ≤ MAX_DOCS }
+        requires documents { base + length self.now.docs ≤ MAX_DOCS }
+        ensures { OnOk result (found.new ≡ set.union found.old
+            (numbers_among base field (takes span.now) self.now.docs)) }
     {
         let places = places_within(self.fields.as_slice(), field, span);
-        add_numbers(found, live, base, places)?;
+        add_numbers(alloc, found, base, end, places)?;
         Ok(())
     }
 

@@ -2,6 +2,7 @@ ghost use Rattle.std.specs.Prelude.{◌≡◌, ℕ, ◌+◌, ◌<◌, ◌≤◌,
 ghost use Rattle.std.specs.Arc.{arc_value};
 ghost use Rattle.std.specs.FinSet as set;
 ghost use Rattle.std.specs.List.{range_with_len};
+ghost use Rattle.field_schema.specs.Keys.{key_eq};
 ghost use Rattle.doc_sets.specs.declared.TheConstants.{MAX_DOCS};
 ghost use Rattle.segment_postings.specs.Numbered.{IsNumbered, IsLive, no_docs, numbers, docs, extended, doc_at};
 ghost use Rattle.segment_postings.specs.Positions.{positions_of};
@@ -16,7 +17,7 @@ use crate::posting::{Position, Posting};
 use crate::segment::Segment;
 use crate::span::Span;
 use doc_model::Doc;
-use doc_sets::{DocNo, DocSet, MAX_DOCS};
+use doc_sets::{DocNo, DocSet, Gathered, MAX_DOCS};
 use field_schema::{FieldNo, Key, NoMemory};
 use std::alloc::Global;
 use std::marker::Model;
@@ -167,24 +168,25 @@ impl View {
         Ok(found)
     }
 
-    // Adds the numbers of the live documents with a key in a field.
-    pub(crate) fn add_numbers(
+    // The numbers of the live documents with a key in a field.
+    pub(crate) fn numbers(
         &self,
-        found: &mut Vec<DocNo>,
+        alloc: Global,
         field: FieldNo,
         key: &Key,
-    ) -> Result<(), NoMemory>
-        ensures { OnOk result (found.new.items ≡ found.old.items
-            ++ map (λ p. p.doc) (postings_of self.now.seen field key.now)) }
+    ) -> Result<DocSet, NoMemory>
+        ensures { IfOk result (λ s. s ≡ numbers_within self.now.seen field (key_eq key.now)) }
     {
-        let live: &DocSet = &self.live;
+        let end = self.size;
+        let mut found = Gathered::new(alloc);
         let mut base = 0;
         let parts = self.parts.as_slice();
         for part in parts {
-            part.add_numbers(found, live, base, field, key)?;
+            part.add_numbers(alloc, &mut found, base, end, field, key)?;
             base += part.docs().len() as u32;
         }
-        Ok(())
+        let alive = both(alloc, found, &self.live)?;
+        Ok(alive)
     }
 
     // Adds the positions of a key in a field of the live documents.
@@ -206,24 +208,25 @@ impl View {
         Ok(())
     }
 
-    // Adds the numbers of the live documents with a key in a field that a span takes.
-    pub(crate) fn add_numbers_within(
+    // The numbers of the live documents with a key in a field that a span takes.
+    pub(crate) fn numbers_within(
         &self,
-        found: &mut Vec<DocNo>,
+        alloc: Global,
         field: FieldNo,
         span: &Span,
-    ) -> Result<(), NoMemory>
-        ensures { OnOk result (set.from_list found.new.items ≡ set.union (set.from_list found.old.items)
-            (numbers_within self.now.seen field (takes span.now))) }
+    ) -> Result<DocSet, NoMemory>
+        ensures { IfOk result (λ s. s ≡ numbers_within self.now.seen field (takes span.now)) }
     {
-        let live: &DocSet = &self.live;
+        let end = self.size;
+        let mut found = Gathered::new(alloc);
         let mut base = 0;
         let parts = self.parts.as_slice();
         for part in parts {
-            part.add_numbers_within(found, live, base, field, span)?;
+            part.add_numbers_within(alloc, &mut found, base, end, field, span)?;
             base += part.docs().len() as u32;
         }
-        Ok(())
+        let alive = both(alloc, found, &self.live)?;
+        Ok(alive)
     }
 
     // The first of the field's terms at or after a key.
@@ -317,6 +320,19 @@ fn either(alloc: Global, left: &DocSet, right: &DocSet) -> Result<DocSet, NoMemo
 {
     match left.or(alloc, right) {
         Ok(all) => Ok(all),
+        Err(_) => Err(NoMemory),
+    }
+}
+
+// The numbers that were gathered and that a set has too.
+fn both(alloc: Global, found: Gathered, live: &DocSet) -> Result<DocSet, NoMemory>
+    ensures { IfOk result (λ s. s ≡ set.intersection found live.now) }
+{
+    let Ok(all) = found.into_set(alloc) else {
+        return Err(NoMemory);
+    };
+    match all.and(alloc, live) {
+        Ok(alive) => Ok(alive),
         Err(_) => Err(NoMemory),
     }
 }

@@ -1,4 +1,6 @@
-use Rattle.std.proofs.Common.{◌<◌, ◌≤◌, length, sym, ap, subst, ◌∙◌, arith}
+use Rattle.std.proofs.Common.{ℕ, List, ◌<◌, ◌≤◌, length, sym, ap, subst, ◌∙◌, arith}
+use Rattle.std.specs.Ordering.{nat_cmp}
+use Rattle.std.specs.FinSet.{from_list}
 use Rattle.std.proofs.lemmas.Result.{IfOk-weaker}
 use Rattle.field_schema.specs.declared.key.Key.TheVariants as key
 use Rattle.doc_sets.specs.Sets.{Numbers, AreDocuments}
@@ -43,14 +45,15 @@ pub set_of-requires : goal.set_of-requires
 set_of-requires g c =
     let v = g.P.Reads.view c.args.probe.now in
     let whole : length c.in-Some.others.now ≤ c.loop-i.i = omega arith in
-    subst (λ (s : Numbers). AreDocuments s)
+    subst (λ (ns : List ℕ). AreDocuments (from_list {R = nat_cmp} ns)) (sym c.as_slice-3.ensures.value)
+    (subst (λ (s : Numbers). AreDocuments s)
     (sym (last_word v c.args.field c.args.words.now c.in-Some.first.now c.in-Some.others.now c.loop-i.i c.as_slice-2.result.now c.in_ok-numbers.numbers.items c.in-Some.ensures.cases.0 whole (c.as_slice-2.ensures.value ∙ c.loop-i.invariant.0) c.in_ok-numbers.ensures))
-    (found_documents (says_words c.args.field c.args.words.now) v c.requires)
+    (found_documents (says_words c.args.field c.args.words.now) v c.requires))
 
 pub returns-clause-found : goal.returns-clause-found
 returns-clause-found g c =
     let v = g.P.Reads.view c.args.probe.now in
     let whole : length c.in-Some.others.now ≤ c.loop-i.i = omega arith in
     IfOk-weaker c.set_of.result _ _
-    (λ s e. e ∙ last_word v c.args.field c.args.words.now c.in-Some.first.now c.in-Some.others.now c.loop-i.i c.as_slice-2.result.now c.in_ok-numbers.numbers.items c.in-Some.ensures.cases.0 whole (c.as_slice-2.ensures.value ∙ c.loop-i.invariant.0) c.in_ok-numbers.ensures)
+    (λ s e. e ∙ ap from_list c.as_slice-3.ensures.value ∙ last_word v c.args.field c.args.words.now c.in-Some.first.now c.in-Some.others.now c.loop-i.i c.as_slice-2.result.now c.in_ok-numbers.numbers.items c.in-Some.ensures.cases.0 whole (c.as_slice-2.ensures.value ∙ c.loop-i.invariant.0) c.in_ok-numbers.ensures)
     c.set_of.ensures

@@ -1,7 +1,0 @@
-use Rattle.std.proofs.Common.{map, take}
-use Rattle.std.specs.Arc.{arc_value}
-use Rattle.segment_postings.proofs.NumbersGathered.{PartNumbers}
-use Rattle.segment_postings.proofs.view.View.add_numbers.Given as goal
-
-abbrev pub invariant-loop-part : goal.invariant-loop-part
-invariant-loop-part l = PartNumbers l.live l.field l.key l.initial.found.items (map arc_value (take l.part-index l.parts)) l.base l.found.items
