@@ -1,35 +1,28 @@
 -- How a run stays ready for its next requests.
 use Rattle.std.proofs.Common.{◌≡◌, ℕ, ◌+◌, ◌≤◌, ap, ◌∙◌, arith}
 use Rattle.search_model.specs.Live.{Change}
-use Rattle.script_form.specs.declared.config.Config.{Config}
 use Rattle.client_runner.specs.declared.runner.Runner.{Runner}
-use Rattle.client_runner.specs.Rooms.{IsReady, StaysReady}
+use Rattle.client_runner.specs.Rooms.{HasRoom, StaysReady}
 use Rattle.client_runner.specs.Standings.{Standing, acquired, changed, opened, standing}
 
--- the same numbers and the same key
-pub ready_kept : (c : Config) (n : ℕ) (old new : Runner) → new.place ≡ old.place → new.current.generation ≡ old.current.generation → new.current.acquired ≡ old.current.acquired
-    → new.index.numbers ≡ old.index.numbers → new.index.key ≡ old.index.key → IsReady c n old → IsReady c n new
-ready_kept c n old new place generation acquired numbers key h = record {
-  room = record {
-    place = omega (arith, place, h.room.place);
-    generation = omega (arith, generation, h.room.generation);
-    acquired = omega (arith, acquired, h.room.acquired);
-    numbers = omega (arith, numbers, h.room.numbers);
-  };
-  key = key ∙ h.key;
+-- the same numbers
+pub ready_kept : (n : ℕ) (old new : Runner) → new.place ≡ old.place → new.current.generation ≡ old.current.generation → new.current.acquired ≡ old.current.acquired
+    → new.index.numbers ≡ old.index.numbers → HasRoom n old → HasRoom n new
+ready_kept n old new place generation acquired numbers h = record {
+  place = omega (arith, place, h.place);
+  generation = omega (arith, generation, h.generation);
+  acquired = omega (arith, acquired, h.acquired);
+  numbers = omega (arith, numbers, h.numbers);
 }
 
-module _ (old new : Runner) (numbers : new.index.numbers ≤ old.index.numbers + 1) (key : new.index.key ≡ old.index.key) where
+module _ (old new : Runner) (numbers : new.index.numbers ≤ old.index.numbers + 1) where
   -- by the numbers alone
   pub stays : new.place ≤ old.place + 2 → new.current.generation ≤ old.current.generation + 1 → new.current.acquired ≤ old.current.acquired + 1 → StaysReady old new
-  stays place generation acquired c n h = record {
-    room = record {
-      place = omega (arith, place, h.room.place);
-      generation = omega (arith, generation, h.room.generation);
-      acquired = omega (arith, acquired, h.room.acquired);
-      numbers = omega (arith, numbers, h.room.numbers);
-    };
-    key = key ∙ h.key;
+  stays place generation acquired n h = record {
+    place = omega (arith, place, h.place);
+    generation = omega (arith, generation, h.generation);
+    acquired = omega (arith, acquired, h.acquired);
+    numbers = omega (arith, numbers, h.numbers);
   }
 
   place_of : (st : Standing) → standing new ≡ st → new.place ≡ st.place

@@ -1,15 +1,13 @@
--- The room that a run's numbers leave, and what its index keeps.
+-- The room that a run's numbers leave.
 use Rattle.std.specs.Prelude.{◌≡◌, ℕ, ◌+◌, ◌*◌, ◌<◌, ◌≤◌, ◌^◌, Bool}
 use Rattle.doc_sets.specs.declared.TheConstants.{MAX_DOCS}
-use Rattle.script_form.specs.declared.config.Config.{Config}
 use Rattle.client_runner.specs.declared.runner.Runner.{Runner}
 use Rattle.client_runner.specs.Standings.{standing, first}
 
 -- before the first request: no number is taken
-pub record IsFirst (key : ℕ) (listened : Bool) (r : Runner) : Type 0 where
+pub record IsFirst (listened : Bool) (r : Runner) : Type 0 where
   pub standing_is : standing r ≡ first listened
   pub numbers : r.index.numbers ≡ 0
-  pub key_is : r.index.key ≡ key
 
 -- there is a next place
 abbrev pub HasPlace : Runner → Type 0
@@ -22,11 +20,6 @@ pub record HasRoom (n : ℕ) (r : Runner) : Type 0 where
   pub acquired : r.current.acquired + n < 2 ^ 32
   pub numbers : r.index.numbers + n ≤ MAX_DOCS
 
--- and its documents have the configuration's unique key
-pub record IsReady (c : Config) (n : ℕ) (r : Runner) : Type 0 where
-  pub room : HasRoom n r
-  pub key : r.index.key ≡ c.schema.key
-
--- it is ready for one request less
+-- it has room for one request less
 abbrev pub StaysReady : Runner → Runner → Type 0
-StaysReady old new = (c : Config) (n : ℕ) → IsReady c (n + 1) old → IsReady c n new
+StaysReady old new = (n : ℕ) → HasRoom (n + 1) old → HasRoom n new

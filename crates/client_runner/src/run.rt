@@ -7,7 +7,7 @@ ghost use Rattle.run_laws.specs.Notes.{TellNotes};
 ghost use Rattle.run_laws.specs.Lawful.{Ascends, Lawful, is_acquired_first as acquired_first};
 ghost use Rattle.client_runner.specs.Histories.{GoesByHistory};
 ghost use Rattle.client_runner.specs.Outputs.{output_view};
-ghost use Rattle.client_runner.specs.Rooms.{IsReady, StaysReady};
+ghost use Rattle.client_runner.specs.Rooms.{HasRoom, StaysReady};
 ghost use Rattle.client_runner.specs.Runs.{TakesLine};
 ghost use Rattle.client_runner.specs.Sizes.{sizes_of};
 ghost use Rattle.client_runner.specs.Standings.{searchers_of, standing};
@@ -37,7 +37,7 @@ impl Runner {
         line: &Line,
     ) -> Result<(), NoMemory>
         requires warming { 0 < config.now.max_warming }
-        requires ready { IsReady config.now 1 self.old }
+        requires ready { HasRoom 1 self.old }
         ensures follows { OnOk result (TakesLine config.now phase line.now (standing self.old) (standing self.new)) }
         ensures ready { OnOk result (StaysReady self.old self.new) }
     {
@@ -127,8 +127,7 @@ pub fn run_script<R: Wait, G: Gate>(
 {
     let turns = turns(alloc, script.get())?;
     let listened = is_acquired_first(config);
-    let key = config.schema.key_field();
-    let mut runner = Runner::new(alloc, key, sizes_of(config), listened)?;
+    let mut runner = Runner::new(alloc, sizes_of(config), listened)?;
     let first = config.first.as_slice();
     runner.index.listen(rt, alloc, first, gate, FIRST_WARMER);
     for turn in &turns {

@@ -1,5 +1,4 @@
 ghost use Rattle.std.specs.Prelude.{◌≡◌, ◌+◌, ◌<◌, ◌≤◌, ◌^◌, IfOk, OnOk, OnErr};
-ghost use Rattle.doc_model.specs.Document.{IsIdAt};
 ghost use Rattle.doc_sets.specs.declared.TheConstants.{MAX_DOCS};
 ghost use Rattle.search_model.specs.Live.{added, after, nothing};
 ghost use Rattle.searcher_core.specs.Shows.{AreSizes};
@@ -11,7 +10,7 @@ ghost use Rattle.client_runner.specs.Views.{request_view};
 use crate::rows::{RequestRow, SearcherRow, Verb};
 use crate::serving::Serving;
 use doc_model::Doc;
-use field_schema::{FieldNo, NoMemory, Text};
+use field_schema::{NoMemory, Text};
 use request_form::DeleteForm;
 use rt_edge::Gate;
 use script_form::Config;
@@ -82,17 +81,12 @@ pub(crate) struct Runner {
 
 impl Runner {
     // Before the first request. Where the first searcher is listened to while it serves, its listeners have acquired it.
-    pub(crate) fn new(
-        alloc: Global,
-        key: FieldNo,
-        sizes: CacheSizes,
-        listened: bool,
-    ) -> Result<Runner, NoMemory>
+    pub(crate) fn new(alloc: Global, sizes: CacheSizes, listened: bool) -> Result<Runner, NoMemory>
         requires { AreSizes sizes }
-        ensures { IfOk result (IsFirst key listened) }
+        ensures { IfOk result (IsFirst listened) }
     {
         Ok(Runner {
-            index: Serving::new(alloc, key, sizes)?,
+            index: Serving::new(alloc, sizes)?,
             place: 2,
             rows: Vec::new(alloc),
             earlier: Vec::new(alloc),
@@ -111,7 +105,6 @@ impl Runner {
     pub(crate) fn add(&mut self, alloc: Global, doc: Doc) -> Result<u64, NoMemory>
         requires place { HasPlace self.old }
         requires number { self.old.index.numbers < MAX_DOCS }
-        requires key { IsIdAt doc self.old.index.key }
         ensures place { IfOk result (λ place. place ≡ self.old.place) }
         ensures ok { OnOk result (standing self.new ≡ changed (added doc) (standing self.old)) }
         ensures ready { StaysReady self.old self.new }
@@ -200,7 +193,6 @@ fn take_away(index: &mut Serving, alloc: Global, form: &DeleteForm) -> Result<()
     ensures err { OnErr result (index.new.docs ≡ index.old.docs) }
     ensures served { index.new.served ≡ index.old.served }
     ensures numbers { index.new.numbers ≤ index.old.numbers }
-    ensures key { index.new.key ≡ index.old.key }
 {
     match form {
         DeleteForm::Id(id) => index.delete_id(alloc, id.get()),

@@ -7,7 +7,7 @@ ghost use Rattle.request_form.specs.Requests.{is_no_memory};
 ghost use Rattle.search_model.specs.Reply.{accepted, no_memory};
 ghost use Rattle.run_laws.specs.CallReadings.{defaults_of};
 ghost use Rattle.client_runner.specs.declared.rows.Verb.TheVariants as Verb;
-ghost use Rattle.client_runner.specs.Rooms.{IsReady, StaysReady};
+ghost use Rattle.client_runner.specs.Rooms.{HasRoom, StaysReady};
 ghost use Rattle.client_runner.specs.Runs.{AnswersBy, Follows};
 ghost use Rattle.run_laws.specs.Notes.{IsNotedBy, not_noted};
 ghost use Rattle.client_runner.specs.Standings.{IsBare, IsRefusal, Shown, bare_text, call_of, found_by, noted_in, standing};
@@ -146,7 +146,7 @@ impl Runner {
         body: &str,
     ) -> Result<(), NoMemory>
         requires warming { 0 < config.now.max_warming }
-        requires ready { IsReady config.now 1 self.old }
+        requires ready { HasRoom 1 self.old }
         ensures follows { OnOk result (Follows config.now (call_of head body.now) (standing self.old) (standing self.new)) }
         ensures ready { OnOk result (StaysReady self.old self.new) }
     {
@@ -170,7 +170,7 @@ impl Runner {
         body: &str,
     ) -> Result<RequestRow, NoMemory>
         requires warming { 0 < config.now.max_warming }
-        requires ready { IsReady config.now 1 self.old }
+        requires ready { HasRoom 1 self.old }
         ensures ok { IfOk result (AnswersBy config.now (call_of head body.now) (standing self.old) (standing self.new)) }
         ensures err { OnErr result (standing self.new ≡ standing self.old) }
         ensures ready { StaysReady self.old self.new }
@@ -192,7 +192,7 @@ impl Runner {
         body: &str,
     ) -> Result<RequestRow, NoMemory>
         requires verb { head.verb ≡ Verb.Add }
-        requires ready { IsReady config.now 1 self.old }
+        requires ready { HasRoom 1 self.old }
         ensures ok { IfOk result (AnswersBy config.now (call_of head body.now) (standing self.old) (standing self.new)) }
         ensures err { OnErr result (standing self.new ≡ standing self.old) }
         ensures ready { StaysReady self.old self.new }
@@ -216,7 +216,7 @@ impl Runner {
         body: &str,
     ) -> Result<RequestRow, NoMemory>
         requires verb { head.verb ≡ Verb.Delete }
-        requires ready { IsReady config.now 1 self.old }
+        requires ready { HasRoom 1 self.old }
         ensures ok { IfOk result (AnswersBy config.now (call_of head body.now) (standing self.old) (standing self.new)) }
         ensures err { OnErr result (standing self.new ≡ standing self.old) }
         ensures ready { StaysReady self.old self.new }
@@ -242,7 +242,7 @@ impl Runner {
         body: &str,
     ) -> Result<RequestRow, NoMemory>
         requires verb { head.verb ≡ Verb.Query }
-        requires ready { IsReady config.now 1 self.old }
+        requires ready { HasRoom 1 self.old }
         ensures ok { IfOk result (AnswersBy config.now (call_of head body.now) (standing self.old) (standing self.new)) }
         ensures err { OnErr result (standing self.new ≡ standing self.old) }
         ensures ready { StaysReady self.old self.new }
@@ -270,7 +270,7 @@ impl Runner {
     ) -> Result<RequestRow, NoMemory>
         requires verb { head.verb ≡ Verb.Commit }
         requires warming { 0 < config.now.max_warming }
-        requires ready { IsReady config.now 1 self.old }
+        requires ready { HasRoom 1 self.old }
         ensures ok { IfOk result (AnswersBy config.now (call_of head body.now) (standing self.old) (standing self.new)) }
         ensures err { OnErr result (standing self.new ≡ standing self.old) }
         ensures ready { StaysReady self.old self.new }

@@ -1,7 +1,6 @@
 //! The index of a serial run, and the door of the searcher that serves.
 ghost use Rattle.std.specs.Prelude.{◌≡◌, ◌<◌, ◌≤◌, ◌+◌, [], OnOk, OnErr, IfOk, drop, length, map, take};
 ghost use Rattle.std.specs.Arc.{arc_value};
-ghost use Rattle.doc_model.specs.Document.{IsIdAt};
 ghost use Rattle.doc_sets.specs.declared.TheConstants.{MAX_DOCS};
 ghost use Rattle.search_model.specs.Answer.{hits};
 ghost use Rattle.search_model.specs.Live.{added, after, deleted_id, deleted_query};
@@ -14,7 +13,7 @@ ghost use Rattle.client_runner.specs.Warmings.{IsWarmedBy, count_of, plan_of};
 
 use autowarm::{WarmCount, WarmPlan, listen, warm};
 use doc_model::Doc;
-use field_schema::{FieldNo, NoMemory};
+use field_schema::NoMemory;
 use query_tree::Query;
 use request_form::Request;
 use rt_edge::Gate;
@@ -46,14 +45,13 @@ impl Model for Serving {
 
 impl Serving {
     // No document.
-    pub(crate) fn new(alloc: Global, key: FieldNo, sizes: CacheSizes) -> Result<Serving, NoMemory>
+    pub(crate) fn new(alloc: Global, sizes: CacheSizes) -> Result<Serving, NoMemory>
         requires { AreSizes sizes }
         ensures docs { IfOk result (λ s. s.docs ≡ []) }
         ensures served { IfOk result (λ s. s.served ≡ []) }
         ensures numbers { IfOk result (λ s. s.numbers ≡ 0) }
-        ensures key { IfOk result (λ s. s.key ≡ key) }
     {
-        let index = Index::new(alloc, key)?;
+        let index = Index::new(alloc)?;
         let view = Arc::clone(index.view())?;
         let door = door_to(alloc, view, sizes)?;
         Ok(Serving { index, door })
@@ -62,13 +60,12 @@ impl Serving {
     // Adds a document, last, in place of the one with its unique key.
     pub(crate) fn add(&mut self, alloc: Global, doc: Doc) -> Result<(), NoMemory>
         requires room { self.old.numbers < MAX_DOCS }
-        requires id { IsIdAt doc self.old.key }
         ensures ok { OnOk result (self.new.docs ≡ after self.old.docs (added doc)) }
         ensures err { OnErr result (self.new.docs ≡ self.old.docs) }
         ensures served { self.new.served ≡ self.old.served }
         ensures numbers { self.new.numbers ≤ self.old.numbers + 1 }
-        ensures key { self.new.key ≡ self.old.key }
     {
+        let doc = Arc::new(alloc, doc)?;
         self.index.add(alloc, doc)
     }
 
@@ -78,7 +75,6 @@ impl Serving {
         ensures err { OnErr result (self.new.docs ≡ self.old.docs) }
         ensures served { self.new.served ≡ self.old.served }
         ensures numbers { self.new.numbers ≤ self.old.numbers }
-        ensures key { self.new.key ≡ self.old.key }
     {
         self.index.delete_id(alloc, id)
     }
@@ -89,7 +85,6 @@ impl Serving {
         ensures err { OnErr result (self.new.docs ≡ self.old.docs) }
         ensures served { self.new.served ≡ self.old.served }
         ensures numbers { self.new.numbers ≤ self.old.numbers }
-        ensures key { self.new.key ≡ self.old.key }
     {
         self.index.delete_query(alloc, query)
     }
@@ -108,7 +103,6 @@ impl Serving {
         ensures err { OnErr result (self.new.served ≡ self.old.served) }
         ensures docs { self.new.docs ≡ self.old.docs }
         ensures numbers { self.new.numbers ≤ self.old.numbers }
-        ensures key { self.new.key ≡ self.old.key }
     {
         let view = self.index.next_view(alloc)?;
         let seen = Arc::clone(&view)?;

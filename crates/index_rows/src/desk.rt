@@ -27,7 +27,7 @@ pub(crate) struct Desk {
 impl Desk {
     pub(crate) fn new(alloc: Global, schema: &str) -> Result<Desk, Fail> {
         let schema = reading::schema(alloc, schema)?;
-        let index = Index::new(alloc, schema.key_field())?;
+        let index = Index::new(alloc)?;
         Ok(Desk {
             alloc,
             schema,
@@ -74,7 +74,7 @@ impl Desk {
     fn update(&mut self, verb: &str, rest: &str) -> Result<bool, Fail> {
         let alloc = self.alloc;
         match verb.as_bytes() {
-            b"index" => self.index = Index::new(alloc, self.schema.key_field())?,
+            b"index" => self.index = Index::new(alloc)?,
             b"add" => serving::add(alloc, &self.schema, &mut self.index, rest)?,
             b"delete" => self.index.delete_id(alloc, rest)?,
             b"delete_query" => {

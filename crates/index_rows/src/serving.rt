@@ -13,7 +13,7 @@ use segment_postings::Counts;
 use served_index::Index;
 use sqlite_items::Items;
 use std::alloc::Global;
-use std::sync::Wait;
+use std::sync::{Arc, Wait};
 use std::test::Fail;
 
 pub(crate) fn add(
@@ -23,8 +23,8 @@ pub(crate) fn add(
     body: &str,
 ) -> Result<(), Fail> {
     let doc = Doc::read(alloc, schema, body)?;
-    if index.numbers() < MAX_DOCS && index.key() == schema.key_field() {
-        index.add(alloc, doc)?;
+    if index.numbers() < MAX_DOCS {
+        index.add(alloc, Arc::new(alloc, doc)?)?;
         Ok(())
     } else {
         Err(Fail::new("no room"))

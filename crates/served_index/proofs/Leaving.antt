@@ -1,6 +1,6 @@
 -- What a view keeps as more of its documents go.
-use Rattle.std.proofs.Common.{◌≡◌, ℕ, suc, ◌+◌, ◌≤◌, Bool, true, false, not, ◌||◌, cond, List, [], ◌∷◌, ◌++◌, length, map, filter, refl, sym, ap, ◌∙◌, arith, Some, None}
-use Rattle.std.specs.List.{enumerate_from, filter_map, flat_map, list_any, cons_option}
+use Rattle.std.proofs.Common.{◌≡◌, ℕ, suc, ◌+◌, ◌≤◌, Bool, true, false, not, ◌||◌, cond, List, [], ◌∷◌, ◌++◌, length, map, filter, All, refl, sym, ap, ◌∙◌, arith}
+use Rattle.std.specs.List.{enumerate_from, flat_map, list_any}
 use Rattle.std.specs.FinSet.{contains, from_list, contains-from_list_nat, len}
 use Rattle.std.proofs.lemmas.Bool.{ne_eqb}
 use Rattle.std.proofs.Common.{eq-eqb}
@@ -14,11 +14,10 @@ use Rattle.doc_sets.specs.Sets.{Numbers, Rises, is_in}
 use Rattle.doc_sets.proofs.Rising.{Rises-lower, is_in-below, is_in-append}
 use Rattle.doc_sets.proofs.SetsOf.{len_of}
 use Rattle.query_tree.specs.KeysOfDocs.{keys_of_value}
-use Rattle.segment_postings.specs.declared.posting.Posting.{Posting}
 use Rattle.segment_postings.specs.Numbered.{Numbered, docs, numbers, extended, IsNumbered}
-use Rattle.segment_postings.specs.Postings.{has_key_at, posting_of, places_of}
+use Rattle.segment_postings.specs.Postings.{has_key_at}
 use Rattle.search_model.specs.Live.{has_id}
-use Rattle.served_index.specs.Standing.{numbers_where, staying, HaveIds}
+use Rattle.served_index.specs.Standing.{numbers_where, staying}
 
 or_false : (b : Bool) → (b || false) ≡ b
 or_false true = refl
@@ -77,10 +76,10 @@ module _ (p : Document → Bool) where
   staying-less v gone more is same = dropped_from (is_in gone) (is_in more) 0 v.size v.list is.rising (λ n low. same n)
 
   -- their numbers stand behind those of the others
-  pub staying-joined : (v : Numbered) (gone more found : List ℕ) → IsNumbered v → found ≡ numbers_where p v.list → more ≡ gone ++ found
+  pub staying-joined : (v : Numbered) (gone more found : List ℕ) → IsNumbered v → ((n : ℕ) → is_in found n ≡ is_in (numbers_where p v.list) n) → more ≡ gone ++ found
       → staying v more ≡ filter (λ d. not (p d)) (staying v gone)
   staying-joined v gone more found is at joined =
-      staying-less v gone more is (λ n. ap (λ xs. is_in xs n) joined ∙ is_in-append gone found n ∙ ap (λ xs. is_in gone n || is_in xs n) at)
+      staying-less v gone more is (λ n. ap (λ xs. is_in xs n) joined ∙ is_in-append gone found n ∙ ap (λ b. is_in gone n || b) (at n))
 
 -- where no document is live, none passes
 pub nothing_where : (p : Document → Bool) (v : Numbered) (s : Numbers) → IsNumbered v → s ≡ from_list (numbers v) → len s ≡ 0 → numbers_where p v.list ≡ []
@@ -91,26 +90,10 @@ nothing_where p v s is at none =
     by [] h = refl
     by (e ∷ es) h = absurd (omega arith)
 
--- ---- the documents with a unique key
+-- ---- a document in the field of its unique key
 
-has_key_is : (field : ℕ) (id : List ℕ) (d : Document) → IsIdAt d field → has_key_at field (key.Str id) d ≡ has_id id d
+pub has_key_is : (field : ℕ) (id : List ℕ) (d : Document) → IsIdAt d field → has_key_at field (key.Str id) d ≡ has_id id d
 has_key_is field id d is = ap (λ vs. list_any (key_eq (key.Str id)) (flat_map keys_of_value vs)) is ∙ or_false (bytes_eq id d.id)
-
-pub found_by_id : (field : ℕ) (id : List ℕ) (es : List (ℕ × Document)) → HaveIds (map (λ e. e.1) es) field
-    → map (λ p. p.doc) (filter_map (posting_of field (key.Str id)) es) ≡ numbers_where (has_id id) es
-found_by_id field id [] ids = refl
-found_by_id field id (e ∷ es) ids =
-    let here = has_key_is field id e.1 (All-head (λ d. IsIdAt d field) e.1 (map (λ f. f.1) es) ids) in
-    let rest = found_by_id field id es (All-tail (λ d. IsIdAt d field) e.1 (map (λ f. f.1) es) ids) in
-    let told : Posting = record { doc = e.0; places = places_of (key.Str id) [] } in
-    ap (λ b. map (λ p. p.doc) (cons_option (cond b (Some told) None) (filter_map (posting_of field (key.Str id)) es))) here
-    ∙ one (has_id id e.1) told rest
-  where
-    one : (b : Bool) (told : Posting) → map (λ p. p.doc) (filter_map (posting_of field (key.Str id)) es) ≡ numbers_where (has_id id) es
-        → map (λ p. p.doc) (cons_option (cond b (Some told) None) (filter_map (posting_of field (key.Str id)) es))
-        ≡ map (λ f. f.0) (cond b ((told.doc, e.1) ∷ filter (λ f. has_id id f.1) es) (filter (λ f. has_id id f.1) es))
-    one true told rest = ap (λ ns. told.doc ∷ ns) rest
-    one false told rest = rest
 
 -- ---- what stays
 
@@ -122,15 +105,15 @@ kept_all (x ∷ xs) = ap (λ ys. x ∷ ys) (kept_all xs)
 pub staying-all : (v : Numbered) → staying v [] ≡ docs v
 staying-all v = ap (map (λ e. e.1)) (kept_all v.list)
 
-pub HaveIds-staying : (v : Numbered) (gone : List ℕ) (field : ℕ) → HaveIds (docs v) field → HaveIds (staying v gone) field
-HaveIds-staying v gone field ids = by v.list ids
+pub staying_have : (Q : Document → Type 0) (v : Numbered) (gone : List ℕ) → All Q (docs v) → All Q (staying v gone)
+staying_have Q v gone ids = by v.list ids
   where
-    by : (es : List (ℕ × Document)) → HaveIds (map (λ e. e.1) es) field → HaveIds (map (λ e. e.1) (filter (λ e. not (is_in gone e.0)) es)) field
+    by : (es : List (ℕ × Document)) → All Q (map (λ e. e.1) es) → All Q (map (λ e. e.1) (filter (λ e. not (is_in gone e.0)) es))
     by [] h = h
     by (e ∷ es) h =
-        let rest = by es (All-tail (λ d. IsIdAt d field) e.1 (map (λ f. f.1) es) h) in
-        elim (not (is_in gone e.0)) as (λ b. HaveIds (map (λ f. f.1) (cond b (e ∷ filter (λ f. not (is_in gone f.0)) es) (filter (λ f. not (is_in gone f.0)) es))) field) [
-          | true ↦ All-cons (λ d. IsIdAt d field) e.1 _ (All-head (λ d. IsIdAt d field) e.1 (map (λ f. f.1) es) h) rest
+        let rest = by es (All-tail Q e.1 (map (λ f. f.1) es) h) in
+        elim (not (is_in gone e.0)) as (λ b. All Q (map (λ f. f.1) (cond b (e ∷ filter (λ f. not (is_in gone f.0)) es) (filter (λ f. not (is_in gone f.0)) es)))) [
+          | true ↦ All-cons Q e.1 _ (All-head Q e.1 (map (λ f. f.1) es) h) rest
           | false ↦ rest
         ]
 

@@ -1,4 +1,5 @@
 pub mod Slots
 pub mod Leaving
+pub mod Uniques
 pub mod Numbering
 pub mod Indexing

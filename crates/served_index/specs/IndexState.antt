@@ -2,10 +2,9 @@
 use Rattle.std.specs.Prelude.{ℕ, List}
 use Rattle.doc_model.specs.Document.{Document}
 
--- the documents that stand and those that the current searcher sees, both in index order; how many document numbers
--- are taken; and the place of the unique key's field
+-- the documents that stand and those that the current searcher sees, both in index order; and how many document numbers
+-- are taken
 pub record IndexState : Type 0 where
   pub docs : List Document
   pub served : List Document
   pub numbers : ℕ
-  pub key : ℕ

@@ -1,47 +1,64 @@
 //! The documents of a view that are gone since it was opened.
-ghost use Rattle.std.specs.Prelude.{◌≡◌, ℕ, ◌||◌, IfOk, map};
+ghost use Rattle.std.specs.Prelude.{◌≡◌, ℕ, ◌||◌, IfOk, OnOk};
 ghost use Rattle.std.specs.FinSet as set;
 ghost use Rattle.doc_sets.specs.Sets.{IsListing, is_in, members};
 ghost use Rattle.segment_postings.specs.Numbered.{docs, IsNumbered};
 ghost use Rattle.search_model.specs.Live.{has_id};
-ghost use Rattle.served_index.specs.Standing.{AreBelow, HaveIds, matching, numbers_where};
+ghost use Rattle.served_index.specs.Standing.{AreBelow, HaveIds, is_under, matching, numbers_where};
 
 use doc_sets::{DocNo, DocSet};
 use field_schema::{FieldNo, Key, NoMemory, Text};
 use query_eval::eval;
 use query_tree::Query;
-use segment_postings::{Posting, Probe, Reads, View};
+use segment_postings::{Probe, Reads, View};
 use std::alloc::Global;
 
-// The numbers of the documents of a view with a unique key, by its postings.
+// The numbers of the documents of a view with a unique key, by its postings in the fields where unique keys stand. One may
+// come more than once.
 pub(crate) fn numbers_with_id(
     alloc: Global,
     view: &View,
-    key: FieldNo,
+    keys: &[FieldNo],
     id: &Text,
 ) -> Result<Vec<DocNo>, NoMemory>
-    requires { HaveIds (docs view.now.seen) key }
-    ensures found { IfOk result (λ v. v.items ≡ numbers_where (has_id id.now) view.now.seen.list) }
+    requires { HaveIds keys.now (docs view.now.seen) }
+    ensures found { IfOk result (λ v. (n : ℕ) → is_in v.items n
+        ≡ is_in (numbers_where (has_id id.now) view.now.seen.list) n) }
     ensures numbered { IfOk result (λ _. IsNumbered view.now.seen) }
 {
+    let mut found = Vec::new(alloc);
     let mut probe = Probe::new(view);
     if probe.live().len() == 0 {
-        return Ok(Vec::new(alloc));
+        return Ok(found);
     }
-    let id = id.copy(alloc)?;
-    let postings = probe.postings(alloc, key, &Key::Str(id))?;
-    numbers_of(alloc, postings.as_slice())
+    for key in keys {
+        add_with_id(alloc, &mut found, &mut probe, *key, id)?;
+    }
+    Ok(found)
 }
 
-// The numbers of postings.
-fn numbers_of(alloc: Global, postings: &[Posting]) -> Result<Vec<DocNo>, NoMemory>
-    ensures { IfOk result (λ v. v.items ≡ map (λ p. p.doc) postings.now) }
+// Adds the numbers of the documents that have a unique key in a field.
+fn add_with_id<P: Reads>(
+    alloc: Global,
+    found: &mut Vec<DocNo>,
+    probe: &mut P,
+    key: FieldNo,
+    id: &Text,
+) -> Result<(), NoMemory>
+    requires { IsNumbered (P.view probe.old) }
+    ensures found { OnOk result ((n : ℕ) → is_in found.new.items n ≡ (is_in found.old.items n
+        || is_in (numbers_where (is_under key id.now) (P.view probe.old).list) n)) }
+    ensures view { P.view probe.new ≡ P.view probe.old }
 {
-    let mut numbers = Vec::with_capacity(alloc, postings.len())?;
-    for posting in postings {
-        numbers.push(posting.doc)?;
+    let own = id.copy(alloc)?;
+    let postings = probe.postings(alloc, key, &Key::Str(own))?;
+    for posting in postings.as_slice() {
+        let doc = probe.stored(posting.doc)?;
+        if id == doc.id() {
+            found.push(posting.doc)?;
+        }
     }
-    Ok(numbers)
+    Ok(())
 }
 
 // The set of numbers that come in any order, and maybe more than once. It costs a sort of them.

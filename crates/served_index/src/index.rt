@@ -1,7 +1,7 @@
-ghost use Rattle.std.specs.Prelude.{◌≡◌, ◌<◌, ◌≤◌, ◌+◌, ◌^◌, [], OnOk, OnErr, IfOk, length};
+ghost use Rattle.std.specs.Prelude.{◌≡◌, ℕ, ◌<◌, ◌≤◌, ◌+◌, ◌^◌, true, [], OnOk, OnErr, IfOk, length};
+ghost use Rattle.doc_sets.specs.Sets.{is_in};
 ghost use Rattle.std.specs.Arc.{arc_value};
 ghost use Rattle.search_model.specs.Live.{added, deleted_id, deleted_query, after};
-ghost use Rattle.doc_model.specs.Document.{IsIdAt};
 ghost use Rattle.doc_sets.specs.declared.TheConstants.{MAX_DOCS};
 ghost use Rattle.segment_postings.specs.Numbered.{docs};
 
@@ -17,7 +17,8 @@ use std::marker::Model;
 use std::sync::Arc;
 
 /// The documents that the updates so far leave, and those that the current searcher sees. Contracts see both lists in
-/// index order, how many document numbers are taken, and the place of the unique key's field.
+/// index order, and how many document numbers are taken. A document tells where its unique key stands, so an index asks for no
+/// schema.
 ///
 /// The current searcher sees a view that is never changed, and that is shared with it. Beside it stand the numbers of its documents that were
 /// replaced or deleted since, and the documents that were added since. So an opening copies no document.
@@ -27,7 +28,8 @@ pub struct Index {
     // They stand in the order in which they went, and one may stand twice.
     gone: Vec<DocNo>,
     pending: Pending,
-    key: FieldNo,
+    // Where the unique keys stand: one field, if all documents are of one schema.
+    keys: Vec<FieldNo>,
 }
 
 impl Model for Index {
@@ -37,29 +39,28 @@ impl Model for Index {
 
     ghost Value = { IndexState };
 
-    ghost view = { λ p. state (arc_value p.current).seen p.gone.items p.pending p.key };
+    ghost view = { λ p. state (arc_value p.current).seen p.gone.items p.pending };
 
-    ghost invariant = { λ p. IsIndex (arc_value p.current).seen p.gone.items p.pending p.key };
+    ghost invariant = { λ p. IsIndex (arc_value p.current).seen p.gone.items p.pending p.keys.items };
 }
 
 // An opening leaves no more segments than these.
 const MOST_SEGMENTS: u32 = 10;
 
 impl Index {
-    /// No document. The unique key stands in the field `key`.
+    /// No document.
     ///
     /// Fails only for want of memory.
-    pub fn new(alloc: Global, key: FieldNo) -> Result<Index, NoMemory>
+    pub fn new(alloc: Global) -> Result<Index, NoMemory>
         ensures docs { IfOk result (λ p. p.docs ≡ []) }
         ensures served { IfOk result (λ p. p.served ≡ []) }
         ensures numbers { IfOk result (λ p. p.numbers ≡ 0) }
-        ensures key { IfOk result (λ p. p.key ≡ key) }
     {
         Ok(Index {
             current: Arc::new(alloc, View::empty(alloc)?)?,
             gone: Vec::new(alloc),
             pending: Pending::new(alloc),
-            key,
+            keys: Vec::new(alloc),
         })
     }
 
@@ -72,29 +73,20 @@ impl Index {
         self.current.size() + self.pending.len()
     }
 
-    /// The unique key's field. It costs nothing.
-    pub fn key(&self) -> FieldNo
-        ensures { result ≡ self.now.key }
-    {
-        self.key
-    }
-
     /// Adds a document, last, in place of the one with its unique key. It takes a document number, which the next
     /// opening gives back if the document is replaced or deleted before.
     ///
     /// Fails only for want of memory, and then all documents are as before. It costs the postings of the unique key in
-    /// each segment, and a search among the unique keys of the documents added since the opening.
-    pub fn add(&mut self, alloc: Global, doc: Doc) -> Result<(), NoMemory>
+    /// each segment, and a search among the unique keys of the documents added since the opening. The document is shared.
+    pub fn add(&mut self, alloc: Global, doc: Arc<Doc>) -> Result<(), NoMemory>
         requires room { self.old.numbers < MAX_DOCS }
-        requires id { IsIdAt doc self.old.key }
-        ensures ok { OnOk result (self.new.docs ≡ after self.old.docs (added doc)) }
+        ensures ok { OnOk result (self.new.docs ≡ after self.old.docs (added (arc_value doc))) }
         ensures err { OnErr result (self.new.docs ≡ self.old.docs) }
         ensures served { self.new.served ≡ self.old.served }
         ensures numbers { self.new.numbers ≤ self.old.numbers + 1 }
-        ensures key { self.new.key ≡ self.old.key }
     {
-        let doc = Arc::new(alloc, doc)?;
-        let found = numbers_with_id(alloc, &self.current, self.key, doc.id())?;
+        note_field(&mut self.keys, doc.key_field())?;
+        let found = numbers_with_id(alloc, &self.current, &self.keys, doc.id())?;
         let before = self.gone.len();
         self.gone.extend_from_slice(found.as_slice())?;
         match self.pending.put(alloc, doc) {
@@ -114,10 +106,9 @@ impl Index {
         ensures err { OnErr result (self.new.docs ≡ self.old.docs) }
         ensures served { self.new.served ≡ self.old.served }
         ensures numbers { self.new.numbers ≤ self.old.numbers }
-        ensures key { self.new.key ≡ self.old.key }
     {
         let id = Text::from_str(alloc, id)?;
-        let found = numbers_with_id(alloc, &self.current, self.key, &id)?;
+        let found = numbers_with_id(alloc, &self.current, &self.keys, &id)?;
         self.gone.extend_from_slice(found.as_slice())?;
         self.pending.remove(&id);
         Ok(())
@@ -133,7 +124,6 @@ impl Index {
         ensures err { OnErr result (self.new.docs ≡ self.old.docs) }
         ensures served { self.new.served ≡ self.old.served }
         ensures numbers { self.new.numbers ≤ self.old.numbers }
-        ensures key { self.new.key ≡ self.old.key }
     {
         let found = matching_numbers(alloc, &self.current, query)?;
         let gone = all_gone(alloc, &self.gone, &found)?;
@@ -173,12 +163,22 @@ impl Index {
         ensures served { self.new.served ≡ self.old.docs }
         ensures docs { self.new.docs ≡ self.old.docs }
         ensures numbers { self.new.numbers ≤ self.old.numbers }
-        ensures key { self.new.key ≡ self.old.key }
     {
         self.current = view;
         self.gone = Vec::new(alloc);
         self.pending = Pending::new(alloc);
     }
+}
+
+// Puts a field among those where unique keys stand, unless it is there.
+fn note_field(fields: &mut Vec<FieldNo>, field: FieldNo) -> Result<(), NoMemory>
+    ensures there { OnOk result (is_in fields.new.items field ≡ true) }
+    ensures stay { (n : ℕ) → is_in fields.old.items n ≡ true → is_in fields.new.items n ≡ true }
+{
+    if !fields.contains(&field) {
+        fields.push(field)?;
+    }
+    Ok(())
 }
 
 // The view with neighbours merged until there are no more segments than ten.

@@ -17,7 +17,7 @@ use Rattle.client_runner.specs.Outputs.{output_view}
 use Rattle.client_runner.specs.RunOrder.{call_at}
 use Rattle.client_runner.specs.Runs.{FollowsIf, Follows}
 use Rattle.client_runner.specs.declared.runner.Runner.{Runner}
-use Rattle.client_runner.specs.Rooms.{IsFirst, IsReady}
+use Rattle.client_runner.specs.Rooms.{IsFirst, HasRoom}
 use Rattle.client_runner.specs.Standings.{Standing, first, searchers_of, standing}
 use Rattle.run_history.specs.Serial.{first_acquires}
 use Rattle.client_runner.proofs.InTurn.{AreServed, are_served, asks_for, index_within, comes_last}
@@ -27,31 +27,25 @@ use Rattle.client_runner.proofs.run.run_script.Goals as goal
 abbrev no_turn : Turn
 no_turn = record { key = 0; phase = 0; index = 0 }
 
-less_ready : (c : Config) (m n : ℕ) (r : Runner) → n ≤ m → IsReady c m r → IsReady c n r
-less_ready c m n r le ready = record {
-  room = record {
-    place = omega (arith, le, ready.room.place);
-    generation = omega (arith, le, ready.room.generation);
-    acquired = omega (arith, le, ready.room.acquired);
-    numbers = omega (arith, le, ready.room.numbers);
-  };
-  key = ready.key;
+less_room : (m n : ℕ) (r : Runner) → n ≤ m → HasRoom m r → HasRoom n r
+less_room m n r le room = record {
+  place = omega (arith, le, room.place);
+  generation = omega (arith, le, room.generation);
+  acquired = omega (arith, le, room.acquired);
+  numbers = omega (arith, le, room.numbers);
 }
 
 at_most_one : (listened : Bool) → first_acquires listened ≤ 1
 at_most_one true = omega arith
 at_most_one false = omega arith
 
-first_ready : (c : Config) (listened : Bool) (r : Runner) → IsFirst c.schema.key listened r → IsReady c 100000 r
-first_ready c listened r is =
+first_room : (listened : Bool) (r : Runner) → IsFirst listened r → HasRoom 100000 r
+first_room listened r is =
     let place : r.place ≡ 2 = ap (λ (s : Standing). s.place) is.standing_is in
     let generation : r.current.generation ≡ 1 = ap (λ (s : Standing). s.current.generation) is.standing_is in
     let count : r.current.acquired ≡ first_acquires listened = ap (λ (s : Standing). s.current.acquired) is.standing_is in
     let few : first_acquires listened ≤ 1 = at_most_one listened in
-    record {
-      room = record { place = omega (arith, place); generation = omega (arith, generation); acquired = omega (arith, count, few); numbers = omega (arith, is.numbers) };
-      key = is.key_is;
-    }
+    record { place = omega (arith, place); generation = omega (arith, generation); acquired = omega (arith, count, few); numbers = omega (arith, is.numbers) }
 
 all_ok : {X Y : Type 0} (r : Result X Y) (P Q R S : X → Type 0) → ((x : X) → P x → Q x → R x → S x) → IfOk r P → IfOk r Q → IfOk r R → IfOk r S
 all_ok (Ok x) P Q R S f p q r = f x p q r
@@ -66,9 +60,7 @@ loop-turn-init g c =
       served = subst (λ (k : IndexState). Served config [] (standing (record runner { index = k }))) (sym c.listen.ensures)
           (subst (Served config []) (sym c.in_ok-runner.ensures.standing_is)
           (subst (λ b. Served config [] (first b)) (sym c.is_acquired_first-listened.ensures) (none_served config c.requires.warming)));
-      ready = subst (λ (k : IndexState). IsReady config 100000 (record runner { index = k })) (sym c.listen.ensures)
-          (first_ready config listened runner
-          (subst (λ k. IsFirst k listened runner) c.key_field-key.ensures.number c.in_ok-runner.ensures));
+      ready = subst (λ (k : IndexState). HasRoom 100000 (record runner { index = k })) (sym c.listen.ensures) (first_room listened runner c.in_ok-runner.ensures);
     }
 
 pub bounds-get-turn : goal.bounds-get-turn
@@ -84,7 +76,7 @@ step-requires-clause-ready g c κs within =
     c.get.ensures c.deref-turn-items.ensures.value c.requires.lines c.requires.clients c.in_ok-turns.ensures.same c.in_ok-turns.ensures.rising in
     let few : length c.deref-turn-items.result.now ≤ 100000 = known.few in
     let in_range : c.loop-turn.turn-index < length c.deref-turn-items.result.now = c.loop-turn-test.true in
-    less_ready c.args.config.now (100000 - c.loop-turn.turn-index) 1 c.loop-turn.runner (omega (arith, few, in_range)) c.loop-turn.invariant.ready
+    less_room (100000 - c.loop-turn.turn-index) 1 c.loop-turn.runner (omega (arith, few, in_range)) c.loop-turn.invariant.ready
 
 pub loop-turn-preserved : goal.loop-turn-preserved
 loop-turn-preserved g c =
@@ -108,7 +100,7 @@ loop-turn-preserved g c =
     let one_less : 100000 - i ≡ (100000 - (i + 1)) + 1 = omega (arith, few, in_range) in
     record {
       served = subst (λ qs. Served config qs new) (sym (ap (map (call_at script)) (take_more items i no_turn in_range) ∙ map-append (call_at script) (take i items) (turn ∷ []))) more;
-      ready = c.in_ok-step.ensures.ready config (100000 - (i + 1)) (subst (λ n. IsReady config n c.loop-turn.runner) one_less c.loop-turn.invariant.ready);
+      ready = c.in_ok-step.ensures.ready (100000 - (i + 1)) (subst (λ n. HasRoom n c.loop-turn.runner) one_less c.loop-turn.invariant.ready);
     }
 
 -- what the run gives, where all the requests of the script were served

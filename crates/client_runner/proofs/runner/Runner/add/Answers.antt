@@ -13,5 +13,4 @@ returns-clause-ready c =
     let count : c.take_place.new.self.current.acquired ≡ c.args.self.now.current.acquired = ap (λ (s : Standing). s.current.acquired) taken in
     stays c.args.self.now c.take_place.new.self
     (subst (λ (x : IndexState). x.numbers ≤ c.args.self.now.index.numbers + 1) (sym same) c.add.ensures.numbers)
-    (ap (λ (x : IndexState). x.key) same ∙ c.add.ensures.key)
     (omega (arith, place)) (omega (arith, generation)) (omega (arith, count))

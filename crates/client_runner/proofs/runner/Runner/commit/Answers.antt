@@ -43,4 +43,4 @@ returns-clause-ok g c =
     (wants_commit c.args.config.now c.args.head c.args.body.now c.requires.verb
     ∙ ap (λ r. result_map_both form_wants (λ m. m) r) (commit_reads c.args.body.now ∙ ap commit_told c.in-Ok.ensures)
     ∙ ap (λ (b : Bool). Ok (cond b a_searcher (an_update nothing))) (is_true c.in-Ok.form.opens c.if-not-form.false))
-    c.requires.warming c.requires.ready.room.generation c.in_ok-place.ensures.ok
+    c.requires.warming c.requires.ready.generation c.in_ok-place.ensures.ok

@@ -13,7 +13,7 @@ use Rattle.run_laws.specs.CallReadings.{asked_by, defaults_of, query_of}
 use Rattle.run_history.specs.Tellings.{an_answer}
 use Rattle.served_index.specs.IndexState.{IndexState}
 use Rattle.client_runner.specs.declared.runner.Runner.{Runner}
-use Rattle.client_runner.specs.Rooms.{IsReady}
+use Rattle.client_runner.specs.Rooms.{HasRoom}
 use Rattle.client_runner.specs.Standings.{acquired, standing}
 use Rattle.run_laws.specs.Bounds.{is_query}
 use Rattle.client_runner.specs.Views.{request_view, verb_view}
@@ -56,6 +56,6 @@ returns-clause-ok g c =
     (c.acquire-ticket.ensures.acquired ∙ ap acquired (same_index c.args.self.now c.found_reply.new.index c.in_ok-reply.ensures.stays))
 
 pub returns-clause-ready : goal.returns-clause-ready
-returns-clause-ready g c config n ready =
-    c.acquire-ticket.ensures.ready config n
-    (subst (λ (k : IndexState). IsReady config (n + 1) (record c.args.self.now { index = k })) (sym c.in_ok-reply.ensures.stays) ready)
+returns-clause-ready g c n ready =
+    c.acquire-ticket.ensures.ready n
+    (subst (λ (k : IndexState). HasRoom (n + 1) (record c.args.self.now { index = k })) (sym c.in_ok-reply.ensures.stays) ready)

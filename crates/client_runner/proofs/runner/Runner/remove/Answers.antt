@@ -14,5 +14,4 @@ returns-clause-ready c =
     let fewer : c.take_away.new.index.numbers ≤ c.args.self.now.index.numbers + 1 = omega (arith, c.take_away.ensures.numbers) in
     stays c.args.self.now c.take_place.new.self
     (subst (λ (x : IndexState). x.numbers ≤ c.args.self.now.index.numbers + 1) (sym same) fewer)
-    (ap (λ (x : IndexState). x.key) same ∙ c.take_away.ensures.key)
     (omega (arith, place)) (omega (arith, generation)) (omega (arith, count))

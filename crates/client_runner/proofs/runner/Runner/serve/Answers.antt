@@ -33,6 +33,6 @@ returns-clause-follows g c =
 
 -- the row takes no number
 pub returns-clause-ready : goal.returns-clause-ready
-returns-clause-ready g c config n h =
-    ready_kept config n c.answer.new.self (record c.answer.new.self { rows = c.push.new.self }) refl refl refl refl refl
-    (c.answer.ensures.ready config n (ready_kept config (n + 1) c.args.self.now (record c.args.self.now { rows = c.reserve.new.self }) refl refl refl refl refl h))
+returns-clause-ready g c n h =
+    ready_kept n c.answer.new.self (record c.answer.new.self { rows = c.push.new.self }) refl refl refl refl
+    (c.answer.ensures.ready n (ready_kept (n + 1) c.args.self.now (record c.args.self.now { rows = c.reserve.new.self }) refl refl refl refl h))

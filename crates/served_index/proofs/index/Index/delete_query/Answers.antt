@@ -19,8 +19,8 @@ invariant_of-self c =
     let old = c.self.inside.pending in
     let most : v.size + old.slots ≤ MAX_DOCS = c.self.invariant.most in
     let less = c.in_ok-pending.ensures.slots in
-    IsIndex-changed v c.self.inside.gone.items c.in_ok-gone.gone.items old c.in_ok-pending.pending c.self.inside.key c.self.invariant c.in_ok-gone.ensures.below
-    (HaveIds-filtered (λ d. not (top d.values c.args.query.now)) old.docs c.in_ok-pending.pending.docs c.self.inside.key c.self.invariant.pending_ids c.in_ok-pending.ensures.docs)
+    IsIndex-changed v c.self.inside.gone.items c.in_ok-gone.gone.items old c.in_ok-pending.pending c.self.inside.keys.items c.self.invariant c.in_ok-gone.ensures.below
+    (HaveIds-filtered (λ d. not (top d.values c.args.query.now)) c.self.inside.keys.items old.docs c.in_ok-pending.pending.docs c.self.invariant.pending_ids c.in_ok-pending.ensures.docs)
     (omega (arith, most, less))
 
 pub returns-clause-ok : goal.returns-clause-ok

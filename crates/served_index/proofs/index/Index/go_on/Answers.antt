@@ -12,7 +12,7 @@ invariant_of-self c =
     let w = (arc_value c.args.view).seen in
     let stands : docs w ≡ staying v c.self.inside.gone.items ++ c.self.inside.pending.docs = c.requires.docs ∙ sym (ap (λ (k : IndexState). k.docs) c.self.view_is) in
     let low : w.size ≤ v.size + c.self.inside.pending.slots = subst (λ (k : IndexState). w.size ≤ k.numbers) (sym c.self.view_is) c.requires.size in
-    IsIndex-opened v w c.self.inside.gone.items c.new.result.items c.self.inside.pending c.new-2.result c.self.inside.key c.self.invariant
+    IsIndex-opened v w c.self.inside.gone.items c.new.result.items c.self.inside.pending c.new-2.result c.self.inside.keys.items c.self.invariant
     stands low c.new.ensures.items c.new-2.ensures.docs c.new-2.ensures.slots
 
 pub returns-clause-served : goal.returns-clause-served

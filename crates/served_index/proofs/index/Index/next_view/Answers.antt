@@ -1,11 +1,10 @@
-use Rattle.std.proofs.Common.{◌≡◌, ◌++◌, ◌+◌, ◌≤◌, length, map, ap, sym, subst, ◌∙◌, arith}
+use Rattle.std.proofs.Common.{◌+◌, ◌≤◌, length, map, ap, sym, subst, ◌∙◌, arith}
 use Rattle.std.specs.FinSet.{from_list}
 use Rattle.std.specs.Arc.{arc_value}
 use Rattle.std.proofs.lemmas.List.{length-map}
 use Rattle.segment_postings.specs.Numbered.{docs, extended}
 use Rattle.segment_postings.specs.Views.{Indexed}
 use Rattle.served_index.specs.IndexState.{IndexState}
-use Rattle.served_index.specs.Standing.{staying}
 use Rattle.served_index.proofs.Indexing.{docs-opened, size-opened}
 use Rattle.served_index.proofs.index.Index.next_view.Goals as goal
 
