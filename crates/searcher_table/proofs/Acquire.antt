@@ -21,19 +21,20 @@ use Rattle.searcher_table.specs.Words.{word_count, current_word, limits}
 use Rattle.searcher_table.specs.Counts.{is_acquire, is_not_yet, releases, pinned, NamesCaller}
 use Rattle.searcher_table.specs.Rule.{CountsTooEarly, IsPacked, Two, released, Kept}
 use Rattle.searcher_table.specs.declared.board.Task.{Task}
-use Rattle.searcher_table.specs.declared.board.Task.TheVariants.{Idle}
+use Rattle.searcher_table.specs.declared.board.Task.TheVariants.{Idle, Back}
 use Rattle.searcher_table.specs.declared.board.Fresh.{Fresh}
-use Rattle.searcher_table.specs.Tasks.{IsTask, IsWarming, Three}
-use Rattle.searcher_table.specs.Doors.{cell_of, told_in, IsDoorLeft, Four}
+use Rattle.searcher_table.specs.Tasks.{emptied, IsTask, IsWarming, Three}
+use Rattle.searcher_table.specs.Doors.{cell_of, told_in, held_in, IsDoorLeft, Four}
 use Rattle.searcher_table.proofs.Slotted.{three_words, three_counts, three_acquired}
 use Rattle.searcher_table.specs.Steps.{looked, acquire_of, TellsNone, TellsGeneration, TellsCurrent, Acquired}
-use Rattle.searcher_table.proofs.Frame.{put_same, covers}
+use Rattle.searcher_table.proofs.Frame.{put_same, nothing_out, covers}
 use Rattle.searcher_table.proofs.Execute.{grows_legal}
 use Rattle.searcher_table.proofs.Counts.{counts_last, pins_own, own_count, few_tries}
 use Rattle.searcher_table.proofs.Beside.{own_last, not_counted, all_snoc, few_slots, first_within}
 use Rattle.searcher_table.proofs.Quiet.{state_next}
+use Rattle.searcher_table.proofs.Holding.{are_held}
 use Rattle.searcher_table.proofs.Standing.{bounded}
-use Rattle.searcher_table.proofs.Doors.{told_next, fills_on, filled_none, four_beside, four_own}
+use Rattle.searcher_table.proofs.Doors.{told_next, held_next, in_it, fills_on, filled_none, four_beside, four_own}
 use Rattle.searcher_table.proofs.Pinning.{early_entry, acquire_entry}
 use Rattle.searcher_table.proofs.Current.{generation_of, count_of, small, tells}
 use Rattle.searcher_table.proofs.OwnStep.{pinned_still, acquires_still, own_step}
@@ -174,21 +175,21 @@ module _ {D W U X L : Type 0} (setting : D → W) (docs : D → X) (deeds : D �
   pub record Takes : Type 0 where
     pub act : Act (Cell D U)
     pub valid : Valid homes carried act
-    pub four : Four setting docs deeds p (after (state_of (limits p) log) (acquire_of {U = U} {X = X} {L = L} c n)) (told_in (log ++ acquire_of c n ∷ [])) own filling (homes_after homes carried act)
+    pub four : Four setting docs deeds p (after (state_of (limits p) log) (acquire_of {U = U} {X = X} {L = L} c n)) (told_in (log ++ acquire_of c n ∷ [])) (held_in (log ++ acquire_of c n ∷ [])) own filling (homes_after homes carried act)
     pub early : n / 549755813888 ≡ 0 → carried_after carried act ≡ carried
     pub lent : n / 549755813888 ≢ 0 → (d : D) × (carried_after carried act ≡ (cell_of (n / 4294967296 % 128) c, Full d) ∷ carried) × IsDoorLeft setting docs deeds p (told_in (log ++ acquire_of c n ∷ []) (n / 549755813888) c) d
 
-  takes_by : (rel : ℕ → ℕ) (words : List ℕ) → Four setting docs deeds p (state_of (limits p) log) (told_in log) own filling homes → p.callers ≤ 64 → 1 ≤ c → c ≤ p.callers → (state_of (limits p) log).pins c ≡ None
+  takes_by : (rel : ℕ → ℕ) (words : List ℕ) → Four setting docs deeds p (state_of (limits p) log) (told_in log) (held_in log) own filling homes → emptied own ≡ None → ((a b g : ℕ) → held_in log a ≡ Some g → held_in log b ≡ Some g → a ≡ b) → p.callers ≤ 64 → 1 ≤ c → c ≤ p.callers → (state_of (limits p) log).pins c ≡ None
       → IsTask p (state_of (limits p) log) own rel words 0 own → ((a b g : ℕ) → (state_of (limits p) log).slots a ≡ Some g → (state_of (limits p) log).slots b ≡ Some g → a ≡ b) → TellsCurrent (limits p) log n → Takes
-  takes_by rel words four few low within free begun one told = ⊎_elim
+  takes_by rel words four all once few low within free begun one told = ⊎_elim
       (λ (k : TellsNone (limits p) log n).
       let below = k.early in
       let e : acquire_of {U = U} {X = X} {L = L} c n ≡ NotYet c = early_entry c c n refl (omega arith) in
       record {
         act = keeps;
         valid = tt;
-        four = subst (λ (y : Entry U X L). Four setting docs deeds p (after (state_of (limits p) log) y) (told_in (log ++ y ∷ [])) own filling homes) (sym e)
-            (four_beside setting docs deeds p (state_of (limits p) log) (after {U = U} {D = X} {L = L} (state_of (limits p) log) (NotYet c)) (told_in log) (told_in (log ++ NotYet c ∷ [])) own own filling homes (λ _. refl) (λ _. refl) (λ h d. told_next log (NotYet c) h d) (fills_on own own refl) four);
+        four = subst (λ (y : Entry U X L). Four setting docs deeds p (after (state_of (limits p) log) y) (told_in (log ++ y ∷ [])) (held_in (log ++ y ∷ [])) own filling homes) (sym e)
+            (four_beside setting docs deeds p (state_of (limits p) log) (after {U = U} {D = X} {L = L} (state_of (limits p) log) (NotYet c)) (told_in log) (told_in (log ++ NotYet c ∷ [])) (held_in log) (held_in (log ++ NotYet c ∷ [])) own own filling homes (λ _. refl) (λ _. refl) (λ h d. told_next log (NotYet c) h d) (λ b. held_next log (NotYet c) b) (fills_on own own refl) four);
         early = λ _. refl;
         lent = λ some. absurd (some (omega arith));
       })
@@ -200,16 +201,16 @@ module _ {D W U X L : Type 0} (setting : D → W) (docs : D → X) (deeds : D �
       let some = k.some in
       let y : Entry U X L = Acquire c g t in
       let e : acquire_of {U = U} {X = X} {L = L} c n ≡ y = acquire_entry c c n refl (λ z. absurd (omega arith)) in
-      let d = four.doors slot g c k.opened low within (λ z. none-some g (sym free ∙ z)) in
+      let d = four.doors slot g c k.opened low within (λ z. none-some g (sym free ∙ z)) (in_it own (cell_of slot c) all) in
       let cell : ℕ = cell_of slot c in
       let now : State = after {U = U} {D = X} {L = L} s y in
       record {
         act = takes cell (Full d.0);
         valid = d.1;
-        four = subst (λ (x : Entry U X L). Four setting docs deeds p (after s x) (told_in (log ++ x ∷ [])) own filling (set homes cell maybe.none)) (sym e)
-            (four_own setting docs deeds p s now (told_in log) (told_in (log ++ y ∷ [])) own filling homes (set homes cell maybe.none) slot g c four few k.opened low (omega arith)
+        four = subst (λ (x : Entry U X L). Four setting docs deeds p (after s x) (told_in (log ++ x ∷ [])) (held_in (log ++ x ∷ [])) own filling (set homes cell maybe.none)) (sym e)
+            (four_own setting docs deeds p s now (told_in log) (told_in (log ++ y ∷ [])) (held_in log) (held_in (log ++ y ∷ [])) own filling homes (set homes cell maybe.none) slot g c four few k.opened low (omega arith)
             (λ b z. one b slot g z k.opened) (filled_none p s own rel words own begun)
-            (λ _. refl) (λ b other. ap (λ z. cond z (Some g) (s.pins b)) (ne_eqb b c other)) (λ h _ z. none-some h (sym free ∙ z)) (λ h d _. told_next log y h d)
+            (λ _. refl) (λ b other. ap (λ z. cond z (Some g) (s.pins b)) (ne_eqb b c other)) (λ h _ z. none-some h (sym free ∙ z)) (λ h d _. told_next log y h d) (λ b. held_next log y b) (λ b z. once b slot g z (four.opened slot g k.opened))
             (length-set homes cell maybe.none) (λ j away. set_else homes cell j maybe.none away)
             (λ z. absurd (z (ap (λ b. cond b (Some g) (s.pins c)) (eq-eqb c c refl)))));
         early = λ zero. absurd (omega arith);
@@ -247,11 +248,11 @@ module _ {D W U X L : Type 0} (setting : D → W) (docs : D → X) (deeds : D �
       let dealt = (all.pass low).dealt in
       let few_passes = kept.one.few in
       let told = tells p w.log s.words kept.legal kept.two in
-      let t = takes_by setting docs deeds p w.log c n (w.tasks 0) w.filling s.homes me.1 (released w.log) s.words kept.four kept.two.sizes.callers low (omega arith) unpinned (kept.three.begun 0) (λ a b g y z. bounds.one a b g y z) told in (
+      let t = takes_by setting docs deeds p w.log c n (w.tasks 0) w.filling s.homes me.1 (released w.log) s.words kept.four (nothing_out p w s.words s.views kept.one c low dealt (λ z. let q : Idle ≡ Back = sym idle ∙ (all.pass low).task ∙ z in absurd (cc))) (are_held (limits p) w.log kept.legal).once kept.two.sizes.callers low (omega arith) unpinned (kept.three.begun 0) (λ a b g y z. bounds.one a b g y z) told in (
         record (looked k log w.pending) { hand = None },
         t.act,
         t.valid,
-        own_step setting docs deeds p s kept id current_word x me e k.task t.act at low bare (omega arith) names.0 names.1 a.may a.later
+        own_step setting docs deeds p s kept id current_word x me e k.task t.act at low (λ z. let q : Idle ≡ Back = sym idle ∙ z in absurd (cc)) bare (omega arith) names.0 names.1 a.may a.later
             (subst (λ (z : ℕ → Task). Three p (after (state_of (limits p) w.log) e) (released log) (w.tasks 0) z (set s.words current_word x)) (λ j d. sym (put_same c k.task w.tasks (all.pass low).task d) j) a.slots) t.four a.warm,
         record {
           made = record {

@@ -58,10 +58,10 @@ leaves {W} {U} {X} {L} l asked w id k f free =
           let n : h.caller ≢ c = λ e. none-some h.asked (sym free ∙ ap w.pending (sym e) ∙ g.pending) in
           record { here = put_else c id w.hand_at h.caller n ∙ g.here; pending = put_else c (Some asked) w.pending h.caller n ∙ g.pending };
       freshes = λ j h other g. record { here = g.here; warming = g.warming };
-      registrars = λ j u other g. record { here = g.here; seen = g.seen; next = g.next; nobody = g.nobody; task = g.task; filling = g.filling };
+      registrars = λ j u other g. record { here = g.here; seen = g.seen; next = g.next; nobody = g.nobody; task = g.task; filling = g.filling; final = g.final };
       backs = λ j o other (g : IsBack w j o).
           let n : o.caller ≢ c = another w id j c o.caller f.here g.here other in
-          record { here = g.here; dealt = g.dealt; mine = g.mine; none = put_else c (Some asked) w.pending o.caller n ∙ g.none };
+          record { here = g.here; dealt = g.dealt; mine = g.mine; none = put_else c (Some asked) w.pending o.caller n ∙ g.none; done = g.done };
     }
 
 module _ {D W U X L : Type 0} (setting : D → W) (docs : D → X) (deeds : D → List L) (p : Plan W) where
@@ -106,6 +106,7 @@ module _ {D W U X L : Type 0} (setting : D → W) (docs : D → X) (deeds : D �
           one = one_after p w w.log now hands w.tasks w.fresh_at id k (Some hand) k.task k.fresh s.words (set s.words i new) s.views kept.one at (leaves (limits p) asked w id k f still.1)
               (λ d l h. subst (λ (n : ℕ). slice_index (set s.words n new) (call_word d) ≡ code (now d)) (sym at_word) (calls_after s.words w.pending c new (Some asked) kept.words few is kept.one.calls d l h))
               (λ d past. let u = kept.one.undealt d past in (put_else c (Some asked) w.pending d (λ e. let deal = f.dealt in absurd (omega arith)) ∙ u.0, u.1, u.2))
+              kept.one.over
               record {
                 hands = (λ h e. let same : hand ≡ h = same_Some hand h e in subst (λ (x : Hand U). IsHand (moved w w.log now hands w.tasks w.fresh_at) id x) same record { here = put_here c id w.hand_at; pending = put_here c (Some asked) w.pending });
                 freshes = λ h e. (let g = all.fresh h e in record { here = g.here; warming = g.warming });

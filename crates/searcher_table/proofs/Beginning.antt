@@ -1,21 +1,23 @@
 -- A table keeps the rule as it is made.
-use Rattle.std.proofs.Common.{◌≡◌, ◌≢◌, ℕ, zero, suc, ◌+◌, ◌*◌, ◌-◌, ◌%◌, ◌<◌, ◌≤◌, List, [], ◌∷◌, length, length-set, set, get_or, get_or-set_same, get_or-set_other, refl, sym, ap, ◌∙◌, subst, inl, ⊎_elim, arith, None}
+use Rattle.std.proofs.Common.{◌≡◌, ◌≢◌, ℕ, zero, suc, ◌+◌, ◌*◌, ◌-◌, ◌%◌, ◌<◌, ◌≤◌, List, [], ◌∷◌, length, map, length-set, set, get_or, get_or-set_same, get_or-set_other, refl, sym, ap, ◌∙◌, subst, inl, ⊎_elim, arith, None}
 use mathlib.Core.Option.{some, some-injective, some-ne-none}
 use Rattle.std.specs.Prelude.{slice_index, replicate, min, ◌^◌}
+use lib.ListN.{get_elem?}
 use Rattle.std.specs.Int.{bit_at}
+use Rattle.std.specs.List.{AllByRecursion}
 use Rattle.std.proofs.lemmas.Bool.{cases_lt}
 use Rattle.std.proofs.lemmas.List.{length-map}
 use Rattle.std.proofs.lemmas.Nat.Bits.{bit_at_ones, bit_at_ones_above}
 use Rattle.std.proofs.lemmas.Option.{same_Some, none-some}
 use Rattle.atomic_table.specs.Table.{opening}
 use Rattle.searcher_table.specs.declared.board.Cell.{Cell}
+use Rattle.searcher_table.specs.declared.board.Cell.TheVariants.{Empty}
 use Rattle.searcher_table.specs.declared.board.Plan.{Plan}
 use Rattle.searcher_table.specs.declared.board.Task.TheVariants.{Idle}
 use Rattle.searcher_table.specs.Words.{current_word, mask_word, bit_of, call_word, HasSizes}
 use Rattle.searcher_table.specs.Rule.{World, Fits, Kept, opened}
 use Rattle.searcher_table.proofs.Frame.{Each}
 use Rattle.searcher_table.proofs.Beside.{few_slots}
-use Rattle.atomic_table.proofs.Lists.{some_there}
 use Rattle.searcher_table.specs.Doors.{cell_of}
 use Rattle.searcher_table.proofs.Doors.{cell_below}
 use Rattle.searcher_table.proofs.Slotted.{idle_duty}
@@ -24,6 +26,12 @@ use Rattle.searcher_table.proofs.Slotted.{idle_duty}
 each_one : {A : Type 0} (F : ℕ → A → Type 0) (a : A) → F 0 a → Each F (a ∷ [])
 each_one F a own zero x e = subst (F 0) (some-injective a x e) own
 each_one F a own (suc j) x e = absurd (some-ne-none x (sym e))
+
+-- a cell of empty ones is empty
+empty_there : {D U : Type 0} (cells : List (Cell D U)) (k : ℕ) → AllByRecursion (λ x. x ≡ Empty) cells → k < length cells → get_elem? (map some cells) k ≡ some (some Empty)
+empty_there [] k all below = absurd (omega arith)
+empty_there (x ∷ xs) zero all below = ap (λ y. some (some y)) all.0
+empty_there (x ∷ xs) (suc k) all below = empty_there xs k all.1 (omega arith)
 
 -- each word of so many is 0
 pub all_zero : (n i : ℕ) → ◌≡◌ {A = ℕ} (get_or (replicate n 0) i 0) 0
@@ -65,8 +73,8 @@ module _ (slots : ℕ) (few : slots ≤ 70) where
       (cases_lt slot 64)
 
 module _ {D W U X L : Type 0} where
-  pub opens : (setting : D → W) (docs : D → X) (deeds : D → List L) (p : Plan W) (cells : List (Cell D U)) → HasSizes p → length cells ≡ (p.callers + p.max_warming + 2) * 64 → Kept {D = D} {W = W} {U = U} {X = X} {L = L} setting docs deeds p (opening (first_words (p.callers + p.max_warming + 2)) cells (opened p))
-  opens setting docs deeds p cells sizes count =
+  pub opens : (setting : D → W) (docs : D → X) (deeds : D → List L) (p : Plan W) (cells : List (Cell D U)) → HasSizes p → length cells ≡ (p.callers + p.max_warming + 2) * 64 → AllByRecursion (λ x. x ≡ Empty) cells → Kept {D = D} {W = W} {U = U} {X = X} {L = L} setting docs deeds p (opening (first_words (p.callers + p.max_warming + 2)) cells (opened p))
+  opens setting docs deeds p cells sizes count empty =
       let w : World U X L = record { log = []; pending = λ _. None; pass_at = λ _. 0; hand_at = λ _. 0; registrar_at = 0; next = 1; tasks = λ _. Idle; fresh_at = λ _. 0; filling = None } in
       let slots : ℕ = p.callers + p.max_warming + 2 in
       let few = few_slots p sizes in
@@ -94,7 +102,8 @@ module _ {D W U X L : Type 0} where
         four = record {
           size = length-map cells some ∙ (let n = count in omega arith);
           doors = λ slot g _ is. absurd (none-some g is);
-          spare = λ slot c below _ low within _. (let a = cell_below slot c slots below low (let b = sizes.callers in omega arith) in some_there cells (cell_of slot c) (omega arith));
+          spare = λ slot c below _ low within _. (let a = cell_below slot c slots below low (let b = sizes.callers in omega arith) in (Empty, empty_there cells (cell_of slot c) empty (omega arith), refl));
+          opened = λ slot g is. absurd (none-some g is);
           filled = λ c low laid_so. absurd (omega arith);
         };
         one = record {
@@ -106,16 +115,17 @@ module _ {D W U X L : Type 0} where
             pass = λ c. absurd (omega arith);
             hand = λ h e. absurd (none-some h e);
             fresh = λ h e. absurd (none-some h e);
-            registrar = λ _. record { here = refl; seen = record { rest = []; grown = refl; quiet = tt }; next = refl; nobody = refl; task = refl; filling = refl };
+            registrar = λ _. record { here = refl; seen = record { rest = []; grown = refl; quiet = tt }; next = refl; nobody = refl; task = refl; filling = refl; final = λ _ _. refl };
             back = tt;
           };
           undealt = λ _ _. (refl, refl, refl);
           first = omega arith;
           few = omega arith;
+          over = λ n _ is. absurd (none-some n is);
         };
       }
 
   -- by the numbers that were put into the mask words
-  pub opens_with : (setting : D → W) (docs : D → X) (deeds : D → List L) (p : Plan W) (a b : ℕ) (cells : List (Cell D U)) → HasSizes p → length cells ≡ (p.callers + p.max_warming + 2) * 64 → a ≡ 2 ^ min (p.callers + p.max_warming + 2) 64 - 1 → b ≡ 2 ^ (p.callers + p.max_warming + 2 - 64) - 1
+  pub opens_with : (setting : D → W) (docs : D → X) (deeds : D → List L) (p : Plan W) (a b : ℕ) (cells : List (Cell D U)) → HasSizes p → length cells ≡ (p.callers + p.max_warming + 2) * 64 → AllByRecursion (λ x. x ≡ Empty) cells → a ≡ 2 ^ min (p.callers + p.max_warming + 2) 64 - 1 → b ≡ 2 ^ (p.callers + p.max_warming + 2 - 64) - 1
       → Kept {D = D} {W = W} {U = U} {X = X} {L = L} setting docs deeds p (opening (set (set (replicate 1168 0) 24 a) 32 b) cells (opened p))
-  opens_with setting docs deeds p a b cells sizes count low high = subst (λ (z : ℕ × ℕ). Kept {D = D} {W = W} {U = U} {X = X} {L = L} setting docs deeds p (opening (set (set (replicate 1168 0) 24 z.0) 32 z.1) cells (opened p))) (λ i. (sym low i, sym high i)) (opens setting docs deeds p cells sizes count)
+  opens_with setting docs deeds p a b cells sizes count empty low high = subst (λ (z : ℕ × ℕ). Kept {D = D} {W = W} {U = U} {X = X} {L = L} setting docs deeds p (opening (set (set (replicate 1168 0) 24 z.0) 32 z.1) cells (opened p))) (λ i. (sym low i, sym high i)) (opens setting docs deeds p cells sizes count empty)

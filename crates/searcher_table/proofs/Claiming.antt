@@ -1,5 +1,5 @@
 -- Finding, claiming and clearing a free slot keep the rule. Only the registrar does so.
-use Rattle.std.proofs.Common.{◌≡◌, ◌≢◌, ℕ, ◌+◌, ◌%◌, ◌<◌, ◌≤◌, true, List, [], append-nil, length, set, get_or-set_same, get_or-set_other, sym, refl, ap, ◌∙◌, subst, inr, ⊎_elim, arith, None}
+use Rattle.std.proofs.Common.{◌≡◌, ◌≢◌, ℕ, ◌+◌, ◌%◌, ◌<◌, ◌≤◌, true, List, [], append-nil, length, set, get_or-set_same, get_or-set_other, sym, refl, ap, ◌∙◌, subst, inr, ⊎_elim, arith, Some, None}
 use mathlib.Core.Option.{some}
 use mathlib.Core.Option as maybe
 use mathlib.Core.Logic.{dite}
@@ -9,6 +9,7 @@ use mir.Syntax.{w64}
 use Rattle.std.specs.Prelude.{slice_index}
 use Rattle.std.specs.Int.{bit_at, trailing_zeros}
 use Rattle.std.proofs.lemmas.Bool.{cases_lt}
+use Rattle.std.proofs.lemmas.Option.{none-some}
 use Rattle.std.proofs.lemmas.Nat.Bits.{bit_at-zero, bit_at-trailing_zeros}
 use Rattle.atomic_table.specs.Table.{State, Me, Act, Allows, homes_after, stepped, keeps, step}
 use Rattle.registry_machine.specs.Legal.{state_of}
@@ -16,11 +17,11 @@ use Rattle.searcher_table.specs.declared.board.Cell.{Cell}
 use Rattle.searcher_table.specs.declared.board.Plan.{Plan}
 use Rattle.searcher_table.specs.declared.board.Known.{Known}
 use Rattle.searcher_table.specs.declared.board.Task.{Task}
-use Rattle.searcher_table.specs.declared.board.Task.TheVariants.{Idle, Found, Claimed, Filled, Duty}
+use Rattle.searcher_table.specs.declared.board.Task.TheVariants.{Idle, Found, Claimed, Filled, Duty, Back}
 use Rattle.searcher_table.specs.Words.{word_count, current_word, slot_word, mask_word, bit_of, limits}
-use Rattle.searcher_table.specs.Doors.{laid, reached, told_in, Four}
+use Rattle.searcher_table.specs.Doors.{laid, reached, told_in, held_in, Four}
 use Rattle.searcher_table.proofs.Doors.{four_begun}
-use Rattle.searcher_table.specs.Tasks.{claimed, unsettled, IsFree, IsTask, Three}
+use Rattle.searcher_table.specs.Tasks.{claimed, unsettled, emptied, IsFree, IsTask, Three}
 use Rattle.searcher_table.specs.Rule.{released, Kept}
 use Rattle.searcher_table.specs.Steps.{looked, HasTurned, Scanned, ScannedOn, Took, HasWiped, Wiped}
 use Rattle.searcher_table.proofs.Frame.{put, set_same, covers}
@@ -39,19 +40,19 @@ idle_no_duty b g e = let q : Idle ≡ Duty b g = e in absurd (cc)
 
 module _ {D W U X L : Type 0} (setting : D → W) (docs : D → X) (deeds : D → List L) (p : Plan W) where
   -- the registrar's step that changes what it has begun, and no entry
-  pub begins : (s : State (Cell D U) (Known W U X L)) (kept : Kept setting docs deeds p s) (id i x : ℕ) (me : Me (Cell D U) (Known W U X L)) (a : Task) (act : Act (Cell D U)) → get_elem? s.views id ≡ some me.0 → me.0.registrar ≡ true → i < 640 → i ≢ current_word
+  pub begins : (s : State (Cell D U) (Known W U X L)) (kept : Kept setting docs deeds p s) (id i x : ℕ) (me : Me (Cell D U) (Known W U X L)) (a : Task) (act : Act (Cell D U)) → get_elem? s.views id ≡ some me.0 → me.0.registrar ≡ true → ((n c : ℕ) → emptied a ≡ Some n → 1 ≤ c → c ≤ p.callers → kept.world.tasks c ≡ Back) → i < 640 → i ≢ current_word
       → Three p (state_of (limits p) kept.world.log) (released kept.world.log) a (put 0 a kept.world.tasks) (set s.words i x)
-      → Four setting docs deeds p (state_of (limits p) kept.world.log) (told_in kept.world.log) a kept.world.filling (homes_after s.homes me.1 act)
+      → Four setting docs deeds p (state_of (limits p) kept.world.log) (told_in kept.world.log) (held_in kept.world.log) a kept.world.filling (homes_after s.homes me.1 act)
       → Kept setting docs deeds p (stepped s i x id me.1 (record (looked me.0 kept.world.log kept.world.pending) { hand = None; task = a; fresh = me.0.fresh }) act) × HasTurned a me.0.fresh me (record (looked me.0 kept.world.log kept.world.pending) { hand = None; task = a; fresh = me.0.fresh }, me.1)
-  begins s kept id i x me a act at role below beside three four =
+  begins s kept id i x me a act at role over below beside three four =
       let w = kept.world in
       let k = me.0 in
       let all = kept.one.fits id k at in
       let r = all.registrar role in (
-        turns setting docs deeds p s kept id i x me w.log [] a k.fresh w.fresh_at act at (inr role) below (sym (append-nil w.log)) tt (inr role) kept.legal
+        turns setting docs deeds p s kept id i x me w.log [] a k.fresh w.fresh_at act at (inr role) (λ low. let n = r.nobody in absurd (omega arith)) over below (sym (append-nil w.log)) tt (inr role) kept.legal
             (two_slots p w.log s.words (set s.words i x) (get_or-set_other s.words i current_word x 0 (λ z. beside (sym z))) kept.two)
             (subst (λ (n : ℕ). Three p (state_of (limits p) w.log) (released w.log) (put n a w.tasks 0) (put n a w.tasks) (set s.words i x)) (sym r.nobody) three)
-            (subst (λ (n : ℕ). Four setting docs deeds p (state_of (limits p) w.log) (told_in w.log) (put n a w.tasks 0) w.filling (homes_after s.homes me.1 act)) (sym r.nobody) four)
+            (subst (λ (n : ℕ). Four setting docs deeds p (state_of (limits p) w.log) (told_in w.log) (held_in w.log) (put n a w.tasks 0) w.filling (homes_after s.homes me.1 act)) (sym r.nobody) four)
             (λ j f away g. (g.here, g.warming))
             (λ f is. let g = all.fresh f is in (g.here, g.warming)),
         record { log = w.log; pending = w.pending; covers = covers p w id k all kept.legal; after = refl },
@@ -62,9 +63,9 @@ module _ {D W U X L : Type 0} (setting : D → W) (docs : D → X) (deeds : D �
   own_is s kept id k a at role is = sym ((kept.one.fits id k at).registrar role).task ∙ is
 
   -- what fills nothing leaves the cells
-  still : (s : State (Cell D U) (Known W U X L)) (kept : Kept setting docs deeds p s) (own a : Task) → kept.world.tasks 0 ≡ own → reached own ≡ None → (laid a).1 ≡ 0
-      → Four setting docs deeds p (state_of (limits p) kept.world.log) (told_in kept.world.log) a kept.world.filling s.homes
-  still s kept own a is none zero = let w = kept.world in four_begun setting docs deeds p (state_of (limits p) w.log) (told_in w.log) (w.tasks 0) a w.filling s.homes (ap reached is ∙ none) zero kept.four
+  still : (s : State (Cell D U) (Known W U X L)) (kept : Kept setting docs deeds p s) (own a : Task) → kept.world.tasks 0 ≡ own → reached own ≡ None → (laid own).1 ≡ 0 → emptied own ≡ None → (laid a).1 ≡ 0
+      → Four setting docs deeds p (state_of (limits p) kept.world.log) (told_in kept.world.log) (held_in kept.world.log) a kept.world.filling s.homes
+  still s kept own a is none bare all zero = let w = kept.world in four_begun setting docs deeds p (state_of (limits p) w.log) (told_in w.log) (held_in w.log) (w.tasks 0) a w.filling s.homes (ap reached is ∙ none) (ap (λ (z : Task). (laid z).1) is ∙ bare) (ap emptied is ∙ all) zero kept.four
 
   -- a word that is read stays
   pub read_same : (s : State (Cell D U) (Known W U X L)) (kept : Kept setting docs deeds p s) (i : ℕ) (a : Task) → Three p (state_of (limits p) kept.world.log) (released kept.world.log) a (put 0 a kept.world.tasks) s.words
@@ -84,8 +85,8 @@ module _ {D W U X L : Type 0} (setting : D → W) (docs : D → X) (deeds : D �
       let free = some_free p w.log w.tasks s.words w.next kept.legal kept.two kept.three (ap claimed own) (ap unsettled own) (subst IsNoDuty (sym own) idle_no_duty) kept.one.few (λ c past. (kept.one.undealt c past).1)
       (subst (λ (gs : List ℕ). length gs < p.max_warming) (sym quiet.warming) room) in
       let goes : (slot : ℕ) → IsFree l (state_of l w.log) (w.tasks 0) slot → Kept setting docs deeds p (stepped s i n id me.1 (record (looked k w.log w.pending) { hand = None; task = Found slot; fresh = k.fresh }) keeps) × HasTurned (Found slot) k.fresh me (record (looked k w.log w.pending) { hand = None; task = Found slot; fresh = k.fresh }, me.1) =
-      λ slot is. begins s kept id i n me (Found slot) keeps at role (omega arith) (omega arith)
-      (read_same s kept i (Found slot) (three_found p (state_of l w.log) (released w.log) w.tasks s.words kept.three slot (ap claimed own) (ap unsettled own) (subst IsNoDuty (sym own) idle_no_duty) is)) (still s kept Idle (Found slot) own refl refl) in
+      λ slot is. begins s kept id i n me (Found slot) keeps at role (λ m _ z. absurd (none-some m z)) (omega arith) (omega arith)
+      (read_same s kept i (Found slot) (three_found p (state_of l w.log) (released w.log) w.tasks s.words kept.three slot (ap claimed own) (ap unsettled own) (subst IsNoDuty (sym own) idle_no_duty) is)) (still s kept Idle (Found slot) own refl refl refl refl) in
       dite (ℕ_discrete n 0)
       (λ zero.
       let low = free.1.below in
@@ -144,8 +145,8 @@ module _ {D W U X L : Type 0} (setting : D → W) (docs : D → X) (deeds : D �
       let at_it : mask_word slot ≡ i = omega arith in
       let rest : slot % 64 ≡ trailing_zeros w64 n = omega arith in
       let one : bit_of s.words slot ≡ 1 = (λ j. bit_at (slice_index s.words (at_it j)) (rest j)) ∙ z.1 in
-      let g = begins s kept id i n me (Found slot) keeps at role (omega arith) (omega arith)
-      (read_same s kept i (Found slot) (three_found p (state_of l w.log) (released w.log) w.tasks s.words kept.three slot (ap claimed own) (ap unsettled own) (subst IsNoDuty (sym own) (found_no_duty b)) ((kept.three.masks slot (omega arith)).free one))) (still s kept (Found b) (Found slot) own refl refl) in (
+      let g = begins s kept id i n me (Found slot) keeps at role (λ m _ z. absurd (none-some m z)) (omega arith) (omega arith)
+      (read_same s kept i (Found slot) (three_found p (state_of l w.log) (released w.log) w.tasks s.words kept.three slot (ap claimed own) (ap unsettled own) (subst IsNoDuty (sym own) (found_no_duty b)) ((kept.three.masks slot (omega arith)).free one))) (still s kept (Found b) (Found slot) own refl refl refl refl) in (
         record (looked k w.log w.pending) { hand = None; task = Found slot; fresh = k.fresh },
         keeps,
         tt,
@@ -165,8 +166,8 @@ module _ {D W U X L : Type 0} (setting : D → W) (docs : D → X) (deeds : D �
       let value : f (slice_index s.words i) ≡ x = is s.words kept.words low (slice_index s.words i) ∙ ap (λ m. without s.words slot kept.words low (slice_index s.words m)) at_word in
       let three : Three p (state_of l w.log) (released w.log) (Claimed slot) (put 0 (Claimed slot) w.tasks) (set s.words (mask_word slot) x) =
       three_claimed p (state_of l w.log) (released w.log) w.tasks s.words kept.three slot (set s.words (mask_word slot) x) own (cleared_here s.words slot kept.words low) (cleared_else s.words slot kept.words low) (slots_beside s.words slot x kept.words low) in
-      let g = begins s kept id i (f (slice_index s.words i)) me (Claimed slot) keeps at role (omega arith) (λ z. absurd (omega arith))
-      (subst (λ (z : ℕ × ℕ). Three p (state_of l w.log) (released w.log) (Claimed slot) (put 0 (Claimed slot) w.tasks) (set s.words z.0 z.1)) (λ j. (sym at_word j, sym value j)) three) (still s kept (Found slot) (Claimed slot) own refl refl) in (
+      let g = begins s kept id i (f (slice_index s.words i)) me (Claimed slot) keeps at role (λ m _ z. absurd (none-some m z)) (omega arith) (λ z. absurd (omega arith))
+      (subst (λ (z : ℕ × ℕ). Three p (state_of l w.log) (released w.log) (Claimed slot) (put 0 (Claimed slot) w.tasks) (set s.words z.0 z.1)) (λ j. (sym at_word j, sym value j)) three) (still s kept (Found slot) (Claimed slot) own refl refl refl refl) in (
         record (looked k w.log w.pending) { hand = None; task = Claimed slot; fresh = k.fresh },
         keeps,
         tt,
@@ -194,8 +195,8 @@ module _ {D W U X L : Type 0} (setting : D → W) (docs : D → X) (deeds : D �
       (λ b few. ap (λ n. bit_at n (b % 64)) (get_or-set_other s.words (slot_word slot) (mask_word b) 0 0 (λ z. absurd (omega arith))))
       (λ b away. get_or-set_other s.words (slot_word slot) (slot_word b) 0 0 (λ z. away (omega arith))) in
       let new : Me (Cell D U) (Known W U X L) = (record (looked k w.log w.pending) { hand = None; task = Filled slot 0; fresh = k.fresh }, me.1) in
-      let g = begins s kept id i 0 me (Filled slot 0) keeps at role (omega arith) (λ z. absurd (omega arith))
-      (subst (λ (z : ℕ). Three p (state_of l w.log) (released w.log) (Filled slot 0) (put 0 (Filled slot 0) w.tasks) (set s.words z 0)) (sym at_word) three) (still s kept (Claimed slot) (Filled slot 0) own refl refl) in (
+      let g = begins s kept id i 0 me (Filled slot 0) keeps at role (λ m _ z. absurd (none-some m z)) (omega arith) (λ z. absurd (omega arith))
+      (subst (λ (z : ℕ). Three p (state_of l w.log) (released w.log) (Filled slot 0) (put 0 (Filled slot 0) w.tasks) (set s.words z 0)) (sym at_word) three) (still s kept (Claimed slot) (Filled slot 0) own refl refl refl refl) in (
         new.0,
         keeps,
         tt,

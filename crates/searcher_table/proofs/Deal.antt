@@ -27,7 +27,7 @@ module _ {W U X L : Type 0} where
     hand = λ h e. let g = f.hand h e in record { here = g.here; pending = g.pending };
     fresh = λ h e. let g = f.fresh h e in record { here = g.here; warming = g.warming };
     registrar = registrar;
-    back = all_map (IsBack w j) (IsBack (dealt w n) j) (λ o g. record { here = still w n j o.caller g.here g.dealt; dealt = (let d = g.dealt in omega arith); mine = g.mine; none = g.none }) k.back f.back;
+    back = all_map (IsBack w j) (IsBack (dealt w n) j) (λ o g. record { here = still w n j o.caller g.here g.dealt; dealt = (let d = g.dealt in omega arith); mine = g.mine; none = g.none; done = g.done }) k.back f.back;
   }
 
   pub deals : {D : Type 0} (setting : D → W) (docs : D → X) (deeds : D → List L) (p : Plan W) (id : ℕ) (k : Known W U X L) → k.registrar ≡ true → k.next ≤ p.callers → Splits (Kept setting docs deeds p) id k (keeps_others k) (dealt_out k)
@@ -50,7 +50,7 @@ module _ {W U X L : Type 0} where
           calls = kept.one.calls;
           fits = each_snoc (Fits p v) left (dealt_out k)
               (each_set (Fits p v) s.views id (keeps_others k)
-              (fits_still p w n id (k.next + 1) k (λ _. record { here = r.here; seen = r.seen; next = ap (λ m. m + 1) r.next; nobody = r.nobody; task = r.task; filling = r.filling }) f)
+              (fits_still p w n id (k.next + 1) k (λ _. record { here = r.here; seen = r.seen; next = ap (λ m. m + 1) r.next; nobody = r.nobody; task = r.task; filling = r.filling; final = r.final }) f)
               (λ j u other e. fits_still p w n j u.next u (λ x. let g = (kept.one.fits j u e).registrar x in absurd (other (sym g.here ∙ r.here))) (kept.one.fits j u e)))
               record {
                 plan = f.plan;
@@ -70,5 +70,6 @@ module _ {W U X L : Type 0} where
           undealt = λ c past. kept.one.undealt c (omega arith);
           first = omega arith;
           few = (let e = r.next in omega arith);
+          over = kept.one.over;
         };
       }

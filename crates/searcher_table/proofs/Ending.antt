@@ -23,10 +23,10 @@ use Rattle.searcher_table.specs.declared.board.Fresh.{Fresh}
 use Rattle.searcher_table.specs.Words.{current_word, slot_word, packed, limits}
 use Rattle.searcher_table.specs.Warming.{number_of}
 use Rattle.searcher_table.specs.Counts.{is_acquire, releases}
-use Rattle.searcher_table.specs.Tasks.{claimed, unsettled, is_settled, IsDuty, IsTask, IsWarming, Three}
+use Rattle.searcher_table.specs.Tasks.{claimed, unsettled, emptied, is_settled, IsDuty, IsTask, IsWarming, Three}
 use Rattle.searcher_table.specs.Rule.{IsFresh, Two, released, Kept}
 use Rattle.searcher_table.specs.Steps.{looked, left_by, TellsNone, TellsGeneration, TellsCurrent, HasExecuted, HasPublished, Published, Superseding}
-use Rattle.searcher_table.proofs.Frame.{put, covers}
+use Rattle.searcher_table.proofs.Frame.{put, not_some, covers}
 use Rattle.searcher_table.proofs.Counts.{not_own}
 use Rattle.searcher_table.proofs.Execute.{grows_legal}
 use Rattle.searcher_table.proofs.Quiet.{quiet_since, state_next}
@@ -35,7 +35,7 @@ use Rattle.searcher_table.proofs.Beside.{Apart, few_slots, not_counted, own_last
 use Rattle.searcher_table.proofs.Current.{tells}
 use Rattle.searcher_table.proofs.Slotted.{SlotsSame, bit_same, idle_duty, map_duty, begun_by, duty_still, was_duty, three_after}
 use Rattle.searcher_table.proofs.Slotting.{IsNoDuty}
-use Rattle.searcher_table.specs.Doors.{reached, told_in, Four}
+use Rattle.searcher_table.specs.Doors.{laid, reached, told_in, held_in, Four}
 use Rattle.searcher_table.proofs.Doors.{claims_none, fills_none, four_entry}
 use Rattle.searcher_table.proofs.Turning.{turns}
 
@@ -178,6 +178,7 @@ module _ {D W U X L : Type 0} (setting : D → W) (docs : D → X) (deeds : D �
       let a : Task = left_by n in
       let left = left_is l w.log n told in
       let sane = sound l w.log kept.legal in
+      let left_over : emptied a ≡ None = ⊎_elim (λ (z : TellsNone l w.log n). ap emptied (left_none l w.log n z)) (λ (z : TellsGeneration l w.log n). ap emptied (left_some l w.log n z.some)) told in
       let news : List ℕ = set s.words current_word x in
       let mine : IsTask p (after v e) a (released w.log) news 0 a = ⊎_elim
       (λ (z : TellsNone l w.log n). subst (λ (y : Task). IsTask p (after v e) a (released w.log) news 0 y) (sym (left_none l w.log n z)) tt)
@@ -195,8 +196,8 @@ module _ {D W U X L : Type 0} (setting : D → W) (docs : D → X) (deeds : D �
       three_after p w.log e a (put 0 a w.tasks) news (λ m. not_counted (releases m) w.log e refl)
       (three_ended p v (after v e) (released w.log) w.tasks s.words news kept.three (few_slots p kept.two.sizes) (λ j low _. get_or-set_other s.words current_word j x 0 (λ z. absurd (omega arith))) (λ _. refl) (λ _. refl) (λ _. refl)
       a (sym r.task ∙ idle) left.1 left.2 mine (λ m. finish_settled v g h.warming.warming a m left.0)) in
-      let four : Four setting docs deeds p (state_of l log) (told_in log) a w.filling s.homes =
-      four_entry setting docs deeds p w.log e (w.tasks 0) a w.filling s.homes (λ _. refl) (λ _. refl) (λ _ _. refl) (λ _ _ _. refl) (fills_none (w.tasks 0) a (ap reached (sym r.task ∙ idle)) (claims_none a left.1).1) kept.four in
+      let four : Four setting docs deeds p (state_of l log) (told_in log) (held_in log) a w.filling s.homes =
+      four_entry setting docs deeds p w.log e (w.tasks 0) a w.filling s.homes (λ _. refl) (λ _. refl) (λ _ _. refl) (λ _ _ _. refl) (λ _ _. refl) (fills_none (w.tasks 0) a (ap reached (sym r.task ∙ idle)) (ap (λ (z : Task). (laid z).1) (sym r.task ∙ idle)) (ap emptied (sym r.task ∙ idle)) (claims_none a left.1).1) kept.four in
       let none : v.acquired g ≡ 0 = unacquired l w.log g kept.legal h.warming.warming in
       let two : Two p log news = record {
         sizes = kept.two.sizes;
@@ -212,9 +213,9 @@ module _ {D W U X L : Type 0} (setting : D → W) (docs : D → X) (deeds : D �
       } in
       let new : Me (Cell D U) (Known W U X L) = (record (looked k log w.pending) { hand = None; task = a; fresh = None }, me.1) in
       let goes : Kept setting docs deeds p (stepped s current_word x id me.1 new.0 keeps) =
-      turns setting docs deeds p s kept id current_word x me log (e ∷ []) a None w.fresh_at keeps at (inr role) (omega arith) refl (refl, tt) (inr role) legal two
+      turns setting docs deeds p s kept id current_word x me log (e ∷ []) a None w.fresh_at keeps at (inr role) (λ low. let z = r.nobody in absurd (omega arith)) (λ m _ z. not_some (emptied a) m left_over z) (omega arith) refl (refl, tt) (inr role) legal two
       (subst (λ (m : ℕ). Three p (state_of l log) (released log) (put m a w.tasks 0) (put m a w.tasks) news) (sym r.nobody) three)
-      (subst (λ (m : ℕ). Four setting docs deeds p (state_of l log) (told_in log) (put m a w.tasks 0) w.filling s.homes) (sym r.nobody) four)
+      (subst (λ (m : ℕ). Four setting docs deeds p (state_of l log) (told_in log) (held_in log) (put m a w.tasks 0) w.filling s.homes) (sym r.nobody) four)
       (λ j y away (z : IsFresh w j l y). (
         z.here,
         subst (λ (m : State). IsWarming m y) (sym next)
@@ -270,17 +271,17 @@ module _ {D W U X L : Type 0} (setting : D → W) (docs : D → X) (deeds : D �
       three_after p w.log e a (put 0 a w.tasks) news (λ m. not_counted (releases m) w.log e refl)
       (three_ended p v (after v e) (released w.log) w.tasks s.words news kept.three (few_slots p kept.two.sizes) (λ j low _. get_or-set_other s.words i j 0 0 (λ z. absurd (omega arith))) (λ _. refl) (λ _. refl) (λ _. refl)
       a (sym r.task ∙ idle) refl (λ b m z. let q : Unsettled f.slot g 0 ≡ Duty b m = z in absurd (cc)) mine (λ m. superseded_settled v g h.warming.warming f.slot m other)) in
-      let four : Four setting docs deeds p (state_of l log) (told_in log) a w.filling s.homes =
-      four_entry setting docs deeds p w.log e (w.tasks 0) a w.filling s.homes (λ _. refl) (λ _. refl) (λ _ _. refl) (λ _ _ _. refl) (fills_none (w.tasks 0) a (ap reached (sym r.task ∙ idle)) refl) kept.four in
+      let four : Four setting docs deeds p (state_of l log) (told_in log) (held_in log) a w.filling s.homes =
+      four_entry setting docs deeds p w.log e (w.tasks 0) a w.filling s.homes (λ _. refl) (λ _. refl) (λ _ _. refl) (λ _ _ _. refl) (λ _ _. refl) (fills_none (w.tasks 0) a (ap reached (sym r.task ∙ idle)) (ap (λ (z : Task). (laid z).1) (sym r.task ∙ idle)) (ap emptied (sym r.task ∙ idle)) refl) kept.four in
       let apart : Apart l w.log e = record { current = refl; acquired = λ _. refl; stays = λ _ _ _ z. z; early = refl; acquire = refl; released = λ _. refl } in
       let new : Me (Cell D U) (Known W U X L) = (record (looked k log w.pending) { hand = None; task = a; fresh = None }, me.1) in (
         new.0,
         keeps,
         tt,
-        turns setting docs deeds p s kept id i 0 me log (e ∷ []) a None w.fresh_at keeps at (inr role) (omega arith) refl (refl, tt) (inr role) legal
+        turns setting docs deeds p s kept id i 0 me log (e ∷ []) a None w.fresh_at keeps at (inr role) (λ low. let z = r.nobody in absurd (omega arith)) (λ m _ z. absurd (none-some m z)) (omega arith) refl (refl, tt) (inr role) legal
             (two_entry p w.log e s.words news (get_or-set_other s.words i current_word 0 0 (λ z. absurd (omega arith))) apart tt kept.two)
             (subst (λ (m : ℕ). Three p (state_of l log) (released log) (put m a w.tasks 0) (put m a w.tasks) news) (sym r.nobody) three)
-            (subst (λ (m : ℕ). Four setting docs deeds p (state_of l log) (told_in log) (put m a w.tasks 0) w.filling s.homes) (sym r.nobody) four)
+            (subst (λ (m : ℕ). Four setting docs deeds p (state_of l log) (told_in log) (held_in log) (put m a w.tasks 0) w.filling s.homes) (sym r.nobody) four)
             (λ j y away (z : IsFresh w j l y). (
               z.here,
               subst (λ (m : State). IsWarming m y) (sym next)

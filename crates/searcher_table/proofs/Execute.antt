@@ -26,14 +26,15 @@ use Rattle.searcher_table.specs.declared.board.Hand.{Hand}
 use Rattle.searcher_table.specs.declared.board.Own.{Own}
 use Rattle.searcher_table.specs.declared.board.Known.{Known}
 use Rattle.searcher_table.specs.declared.board.Task.{Task}
+use Rattle.searcher_table.specs.declared.board.Task.TheVariants.{Back}
 use Rattle.searcher_table.specs.declared.board.Fresh.{Fresh}
-use Rattle.searcher_table.specs.Tasks.{IsWarming, Three}
-use Rattle.searcher_table.specs.Doors.{shown_after, left_after, told_in, Four}
+use Rattle.searcher_table.specs.Tasks.{emptied, IsWarming, Three}
+use Rattle.searcher_table.specs.Doors.{shown_after, left_after, held_after, told_in, held_in, Four}
 use Rattle.searcher_table.specs.Words.{current_word, call_word, code_of, code, limits}
 use Rattle.searcher_table.specs.Views.{Answers, IsStill, WasExecuted, GoesOn, HasNoPlaceSince}
-use Rattle.searcher_table.specs.Rule.{World, IsPass, IsHand, IsFresh, IsRegistrar, IsBack, released, Kept}
+use Rattle.searcher_table.specs.Rule.{World, IsPass, IsHand, IsFresh, IsRegistrar, IsDone, IsBack, released, Kept}
 use Rattle.searcher_table.specs.Steps.{answer_of, looked, HasExecuted, Executed}
-use Rattle.searcher_table.proofs.Frame.{put, put_here, put_else, put_same, moved, Leaves, starts_later, own_joined, all_map, one_after, covers}
+use Rattle.searcher_table.proofs.Frame.{put, put_here, put_else, put_same, moved, Leaves, starts_later, own_joined, all_map, done_still, one_after, covers}
 use Rattle.searcher_table.specs.Counts.{releases, NamesCaller}
 use Rattle.searcher_table.proofs.Beside.{AreSame, Apart, call_beside, few_slots, not_counted, two_entry}
 use Rattle.searcher_table.proofs.Slotted.{three_words, slots_same}
@@ -74,21 +75,21 @@ module _ {U X L : Type 0} (w : World U X L) (h : Hand U) (e : Entry U X L) (answ
       (λ other. subst (λ (a : Option (Asked U)). GoesOn k.caller k.mine k.announced (mine k.caller (w.log ++ e ∷ [])) a) (sym (put_else h.caller None w.pending k.caller other))
       (subst (λ (es : List (Entry U X L)). GoesOn k.caller k.mine k.announced es (w.pending k.caller)) (sym (no_entry h.caller k.caller w.log e answers.caller other)) g.calls))
 
-  backs : (tasks : ℕ → Task) (fresh_at : ℕ → ℕ) (j : ℕ) (o : Own U X L) → w.pending h.caller ≡ Some h.asked → IsBack w j o → IsBack (moved w (w.log ++ e ∷ []) (put h.caller None w.pending) w.hand_at tasks fresh_at) j o
-  backs tasks fresh_at j o pending g =
+  backs : (tasks : ℕ → Task) (fresh_at : ℕ → ℕ) (j : ℕ) (o : Own U X L) → ((d : ℕ) → 1 ≤ d → tasks d ≡ w.tasks d) → w.pending h.caller ≡ Some h.asked → IsBack w j o → IsBack (moved w (w.log ++ e ∷ []) (put h.caller None w.pending) w.hand_at tasks fresh_at) j o
+  backs tasks fresh_at j o still pending g =
       let n : o.caller ≢ h.caller = λ same. none-some h.asked (sym g.none ∙ ap w.pending same ∙ pending) in
-      record { here = g.here; dealt = g.dealt; mine = no_entry h.caller o.caller w.log e answers.caller n ∙ g.mine; none = put_else h.caller None w.pending o.caller n ∙ g.none }
+      record { here = g.here; dealt = g.dealt; mine = no_entry h.caller o.caller w.log e answers.caller n ∙ g.mine; none = put_else h.caller None w.pending o.caller n ∙ g.none; done = done_still w.tasks tasks o (still o.caller g.done.low) g.done }
 
   leaves : (W : Type 0) (l : Limits) (id : ℕ) (tasks : ℕ → Task) (fresh_at : ℕ → ℕ) → w.registrar_at ≡ id → w.hand_at h.caller ≡ id → w.pending h.caller ≡ Some h.asked
-      → ((j d : ℕ) → j ≢ id → 1 ≤ d → w.pass_at d ≡ j → tasks d ≡ w.tasks d) → ((j : ℕ) (f : Fresh) → j ≢ id → IsFresh w j l f → (fresh_at f.generation ≡ j) × IsWarming (state_of l (w.log ++ e ∷ [])) f)
+      → ((d : ℕ) → 1 ≤ d → tasks d ≡ w.tasks d) → ((j : ℕ) (f : Fresh) → j ≢ id → IsFresh w j l f → (fresh_at f.generation ≡ j) × IsWarming (state_of l (w.log ++ e ∷ [])) f)
       → Leaves W l w (moved w (w.log ++ e ∷ []) (put h.caller None w.pending) w.hand_at tasks fresh_at) id
   leaves W l id tasks fresh_at registrar here pending theirs freshes = record {
     log = λ seen s. starts_later w.log seen (e ∷ []) s;
-    passes = λ j k away low (g : IsPass w j k). record { here = g.here; dealt = g.dealt; calls = passes j k pending g; task = g.task ∙ sym (theirs j k.caller away low g.here) };
+    passes = λ j k away low (g : IsPass w j k). record { here = g.here; dealt = g.dealt; calls = passes j k pending g; task = g.task ∙ sym (theirs k.caller low) };
     hands = λ j i other (g : IsHand w j i). record { here = g.here; pending = put_else h.caller None w.pending i.caller (other_hand w id j h.caller i.caller here g.here other) ∙ g.pending };
     freshes = λ j f away g. let i = freshes j f away g in record { here = i.0; warming = i.1 };
     registrars = λ j k other (g : IsRegistrar w j k). absurd (other (sym g.here ∙ registrar));
-    backs = λ j o _ g. backs tasks fresh_at j o pending g;
+    backs = λ j o _ g. backs tasks fresh_at j o theirs pending g;
   }
 
 -- the entry is one that may come next, whatever the history is by then
@@ -102,6 +103,7 @@ pub record IsAnswer {W U X L : Type 0} (p : Plan W) (h : Hand U) (e : Entry U X 
   pub same : (s : MachineState) → after s e ≡ s
   pub shows : (f : ℕ → Option X) (g : ℕ) → shown_after f e g ≡ f g
   pub left : (f : ℕ → ℕ → List L) (g c : ℕ) → left_after f e g c ≡ f g c
+  pub holds : (f : ℕ → Option ℕ) (b : ℕ) → held_after f e b ≡ f b
   pub apart : (l : Limits) (log : List (Entry U X L)) → Apart l log e
   pub lasting : (s t : MachineState) → HasSameOpenings s t → IsAllowed (limits p) s e → IsAllowed (limits p) t e
 
@@ -113,6 +115,7 @@ module _ {W U X L : Type 0} (p : Plan W) (h : Hand U) where
     same = λ _. refl;
     shows = λ _ _. refl;
     left = λ _ _ _. refl;
+    holds = λ _ _. refl;
     apart = λ l log. record { current = refl; acquired = λ _. refl; stays = λ _ _ _ is. is; early = refl; acquire = refl; released = λ _. refl };
     lasting = λ s t o a. record { full = ap length o.warming ∙ a.full; told = a.told ∙ sym o.warming };
   }
@@ -124,6 +127,7 @@ module _ {W U X L : Type 0} (p : Plan W) (h : Hand U) where
     same = λ _. refl;
     shows = λ _ _. refl;
     left = λ _ _ _. refl;
+    holds = λ _ _. refl;
     apart = λ l log. record { current = refl; acquired = λ _. refl; stays = λ _ _ _ is. is; early = refl; acquire = refl; released = λ _. refl };
     lasting = λ s t o a. record { room = subst (λ (gs : List ℕ). length gs < p.max_warming) (sym o.warming) a.room; last = o.last ∙ a.last };
   }
@@ -139,6 +143,7 @@ is_answer p seen h ToUpdate is = record {
   same = λ _. refl;
   shows = λ _ _. refl;
   left = λ _ _ _. refl;
+  holds = λ _ _. refl;
   apart = λ l log. record { current = refl; acquired = λ _. refl; stays = λ _ _ _ is. is; early = refl; acquire = refl; released = λ _. refl };
   lasting = λ s t o a. tt;
 }
@@ -148,8 +153,9 @@ module _ {D W U X L : Type 0} (setting : D → W) (docs : D → X) (deeds : D �
   -- what a call's step leaves of the slots, by its entry, what the registrar has begun then, and which warming generation it can publish
   pub record Places (s : State (Cell D U) (Known W U X L)) (kept : Kept setting docs deeds p s) (id i : ℕ) (k : Known W U X L) (e : Entry U X L) (task : Task) (fresh : Option Fresh) : Type 0 where
     pub fresh_at : ℕ → ℕ
+    pub over : (n c : ℕ) → emptied task ≡ Some n → 1 ≤ c → c ≤ p.callers → kept.world.tasks c ≡ Back
     pub three : Three p (state_of (limits p) (kept.world.log ++ e ∷ [])) (released (kept.world.log ++ e ∷ [])) (put 0 task kept.world.tasks 0) (put 0 task kept.world.tasks) (set s.words i 0)
-    pub four : Four setting docs deeds p (state_of (limits p) (kept.world.log ++ e ∷ [])) (told_in (kept.world.log ++ e ∷ [])) (put 0 task kept.world.tasks 0) kept.world.filling s.homes
+    pub four : Four setting docs deeds p (state_of (limits p) (kept.world.log ++ e ∷ [])) (told_in (kept.world.log ++ e ∷ [])) (held_in (kept.world.log ++ e ∷ [])) (put 0 task kept.world.tasks 0) kept.world.filling s.homes
     pub others : (j : ℕ) (f : Fresh) → j ≢ id → IsFresh kept.world j (limits p) f → Holds p fresh_at (kept.world.log ++ e ∷ []) j f
     pub own : (f : Fresh) → fresh ≡ Some f → Holds p fresh_at (kept.world.log ++ e ∷ []) id f
 
@@ -186,17 +192,18 @@ module _ {D W U X L : Type 0} (setting : D → W) (docs : D → X) (deeds : D �
           three = z.three;
           four = z.four;
           one = one_after p w log now w.hand_at tasks z.fresh_at id k None task fresh s.words (set s.words i 0) s.views kept.one at
-              (leaves w h e answers W (limits p) id tasks z.fresh_at r.here hand.here hand.pending (λ j d away some there. put_else 0 task w.tasks d (λ same. absurd (omega arith))) z.others)
+              (leaves w h e answers W (limits p) id tasks z.fresh_at r.here hand.here hand.pending (λ d some. put_else 0 task w.tasks d (λ same. absurd (omega arith))) z.others)
               (λ d l g. subst (λ (n : ℕ). slice_index (set s.words n 0) (call_word d) ≡ code (now d)) (sym at_word) (calls_after s.words w.pending c 0 None kept.words few refl kept.one.calls d l g))
               (λ d past. let u = kept.one.undealt d past in
               let n : d ≢ c = λ same. none-some h.asked (sym u.0 ∙ ap w.pending same ∙ hand.pending) in
               let first = kept.one.first in
               (put_else c None w.pending d n ∙ u.0, no_entry c d w.log e answers.caller n ∙ u.1, put_else 0 task w.tasks d (λ same. absurd (omega arith)) ∙ u.2))
+              (λ n d is some few. put_else 0 task w.tasks d (λ same. absurd (omega arith)) ∙ z.over n d is some few)
               record {
                 hands = λ g is. absurd (none-some g is);
                 freshes = λ g is. let y = z.own g is in record { here = y.0; warming = y.1 };
                 begun = λ _. sym (ap tasks r.nobody);
-                backs = all_map (IsBack w id) (IsBack (moved w log now w.hand_at tasks z.fresh_at) id) (λ o b. backs w h e answers tasks z.fresh_at id o hand.pending b) k.back all.back;
+                backs = all_map (IsBack w id) (IsBack (moved w log now w.hand_at tasks z.fresh_at) id) (λ o b. backs w h e answers tasks z.fresh_at id o (λ d some. put_else 0 task w.tasks d (λ same. absurd (omega arith))) hand.pending b) k.back all.back;
               };
         },
         tells (slice_index s.words i) new record {
@@ -230,11 +237,12 @@ module _ {D W U X L : Type 0} (setting : D → W) (docs : D → X) (deeds : D �
       three_words p (state_of l w.log) (released w.log) w.tasks (few_slots p kept.two.sizes) s.words (set s.words i 0) (slots_same s.words (set s.words i 0) (subst (λ (n : ℕ). AreSame s.words (set s.words n 0)) (sym at_word) (call_beside s.words h.caller 0))) kept.three in
       record {
         fresh_at = w.fresh_at;
+        over = λ n c is. kept.one.over n c (ap emptied (sym r.task) ∙ is);
         three = (
             let y : Three p (state_of l log) (released log) (w.tasks 0) w.tasks (set s.words i 0) =
             subst (λ (z : MachineState × (ℕ → ℕ)). Three p z.0 z.1 (w.tasks 0) w.tasks (set s.words i 0)) (λ j. (sym state j, λ g. sym (not_counted (releases g) w.log e ((a.apart l w.log).released g)) j)) words in
             subst (λ (z : ℕ → Task). Three p (state_of l log) (released log) (z 0) z (set s.words i 0)) (λ j c. sym (still c) j) y);
-        four = four_entry setting docs deeds p w.log e (w.tasks 0) (put 0 me.0.task w.tasks 0) w.filling s.homes (λ b. ap (λ (z : MachineState). z.slots b) (a.same (state_of l w.log))) (λ c. ap (λ (z : MachineState). z.pins c) (a.same (state_of l w.log))) a.shows a.left
+        four = four_entry setting docs deeds p w.log e (w.tasks 0) (put 0 me.0.task w.tasks 0) w.filling s.homes (λ b. ap (λ (z : MachineState). z.slots b) (a.same (state_of l w.log))) (λ c. ap (λ (z : MachineState). z.pins c) (a.same (state_of l w.log))) a.shows a.left a.holds
             (fills_on (w.tasks 0) (put 0 me.0.task w.tasks 0) (still 0)) kept.four;
         others = λ j g away i. (i.here, warm g i.warming);
         own = λ g is. let i = f.fresh g is in (i.here, warm g i.warming);

@@ -16,7 +16,7 @@ use Rattle.searcher_table.specs.declared.board.Task.{Task}
 use Rattle.searcher_table.specs.declared.board.Task.TheVariants.{Filled, Filling, Duty}
 use Rattle.searcher_table.specs.Words.{limits}
 use Rattle.searcher_table.specs.Tasks.{claimed, unsettled, IsClear, IsTask, Three}
-use Rattle.searcher_table.specs.Doors.{cell_of, laid, told_in, Four}
+use Rattle.searcher_table.specs.Doors.{cell_of, laid, told_in, held_in, Four}
 use Rattle.searcher_table.specs.Rule.{World, IsRegistrar, IsBack, Fits, released, Kept}
 use Rattle.searcher_table.specs.Steps.{looked, HasTurned, HasReached, Reached, Laid, filling_with}
 use Rattle.searcher_table.specs.Claims.{IsOpener, HasBegun, HasLaid}
@@ -50,13 +50,13 @@ module _ {W U X L : Type 0} where
     hand = λ h e. let i = g.hand h e in record { here = i.here; pending = i.pending };
     fresh = λ h e. let i = g.fresh h e in record { here = i.here; warming = i.warming };
     registrar = registrar;
-    back = all_map (IsBack w j) (IsBack (record w { filling = f }) j) (λ o i. record { here = i.here; dealt = i.dealt; mine = i.mine; none = i.none }) k.back g.back;
+    back = all_map (IsBack w j) (IsBack (record w { filling = f }) j) (λ o i. record { here = i.here; dealt = i.dealt; mine = i.mine; none = i.none; done = i.done }) k.back g.back;
   }
 
 module _ {D W U X L : Type 0} (setting : D → W) (docs : D → X) (deeds : D → List L) (p : Plan W) where
   -- the registrar says what it fills with
   refilled : (s : State (Cell D U) (Known W U X L)) (kept : Kept setting docs deeds p s) (id : ℕ) (k : Known W U X L) (f : Option X) → get_elem? s.views id ≡ some k → k.registrar ≡ true
-      → Four setting docs deeds p (state_of (limits p) kept.world.log) (told_in kept.world.log) (kept.world.tasks 0) f s.homes → Kept setting docs deeds p (record { words = s.words; homes = s.homes; views = set s.views id (record k { filling = f }) })
+      → Four setting docs deeds p (state_of (limits p) kept.world.log) (told_in kept.world.log) (held_in kept.world.log) (kept.world.tasks 0) f s.homes → Kept setting docs deeds p (record { words = s.words; homes = s.homes; views = set s.views id (record k { filling = f }) })
   refilled s kept id k f at role four =
       let w = kept.world in
       let v : World U X L = record w { filling = f } in
@@ -71,11 +71,12 @@ module _ {D W U X L : Type 0} (setting : D → W) (docs : D → X) (deeds : D �
         one = record {
           calls = kept.one.calls;
           fits = each_set (Fits p v) s.views id (record k { filling = f })
-              (refits p w f f id k (λ _. record { here = r.here; seen = r.seen; next = r.next; nobody = r.nobody; task = r.task; filling = refl }) (kept.one.fits id k at))
+              (refits p w f f id k (λ _. record { here = r.here; seen = r.seen; next = r.next; nobody = r.nobody; task = r.task; filling = refl; final = r.final }) (kept.one.fits id k at))
               (λ j u other e. refits p w f u.filling j u (λ x. let g = (kept.one.fits j u e).registrar x in absurd (other (sym g.here ∙ r.here))) (kept.one.fits j u e));
           undealt = kept.one.undealt;
           first = kept.one.first;
           few = kept.one.few;
+          over = kept.one.over;
         };
       }
 
@@ -91,15 +92,15 @@ module _ {D W U X L : Type 0} (setting : D → W) (docs : D → X) (deeds : D �
       let mine : IsTask p v (w.tasks 0) (released w.log) s.words 0 (Filled slot n) = subst (λ (a : Task). IsTask p v (w.tasks 0) (released w.log) s.words 0 a) own (kept.three.begun 0) in
       let clear : IsClear l v s.words slot = mine.1 in
       let few = kept.two.sizes.callers in
-      let four : Four setting docs deeds p v (told_in w.log) (Filled slot n) w.filling s.homes = subst (λ (a : Task). Four setting docs deeds p v (told_in w.log) a w.filling s.homes) own kept.four in
+      let four : Four setting docs deeds p v (told_in w.log) (held_in w.log) (Filled slot n) w.filling s.homes = subst (λ (a : Task). Four setting docs deeds p v (told_in w.log) (held_in w.log) a w.filling s.homes) own kept.four in
       let cell : ℕ = cell_of slot (n + 1) in
-      let x = four.spare slot (n + 1) clear.below clear.none (omega arith) (omega arith) (λ z. none-some cell z) in
+      let x = four.spare slot (n + 1) clear.below clear.none (omega arith) (omega arith) record { unfilled = λ _. omega arith; home = λ z. none-some cell z; within = λ m z. absurd (none-some m z) } in
       let three : Three p v (released w.log) (Filling slot n) (put 0 (Filling slot n) w.tasks) s.words =
       three_filled p v (released w.log) w.tasks s.words kept.three slot (Filling slot n) (ap claimed own) refl (ap unsettled own) refl
       (λ b g e. let q : Filled slot n ≡ Duty b g = sym own ∙ e in absurd (cc)) (λ b g e. let q : Filling slot n ≡ Duty b g = e in absurd (cc)) (refl, clear) in
       let new : Me (Cell D U) (Known W U X L) = (record (looked k w.log w.pending) { hand = None; task = Filling slot n; fresh = k.fresh }, (cell, x.0) ∷ me.1) in
-      let g = begins setting docs deeds p s kept id i (slice_index s.words i) me (Filling slot n) (takes cell x.0) at role (omega arith) (λ z. absurd (omega arith))
-      (read_same setting docs deeds p s kept i (Filling slot n) three) (four_reached setting docs deeds p v (told_in w.log) slot n w.filling s.homes few clear.none more four) in (
+      let g = begins setting docs deeds p s kept id i (slice_index s.words i) me (Filling slot n) (takes cell x.0) at role (λ m _ z. absurd (none-some m z)) (omega arith) (λ z. absurd (omega arith))
+      (read_same setting docs deeds p s kept i (Filling slot n) three) (four_reached setting docs deeds p v (told_in w.log) (held_in w.log) slot n w.filling s.homes few clear.none more four) in (
         new.0,
         takes cell x.0,
         x.1,
@@ -124,18 +125,18 @@ module _ {D W U X L : Type 0} (setting : D → W) (docs : D → X) (deeds : D �
       let few = kept.two.sizes.callers in
       let f : Option X = Some (docs d) in
       let a : Task = Filled slot (n + 1) in
-      let before : Four setting docs deeds p v (told_in w.log) (Filling slot n) w.filling s.homes = subst (λ (b : Task). Four setting docs deeds p v (told_in w.log) b w.filling s.homes) own kept.four in
-      let told : Four setting docs deeds p v (told_in w.log) (Filling slot n) f s.homes = four_refilled setting docs deeds p v (told_in w.log) slot n w.filling f s.homes (λ z. sym r.filling ∙ same z) before in
+      let before : Four setting docs deeds p v (told_in w.log) (held_in w.log) (Filling slot n) w.filling s.homes = subst (λ (b : Task). Four setting docs deeds p v (told_in w.log) (held_in w.log) b w.filling s.homes) own kept.four in
+      let told : Four setting docs deeds p v (told_in w.log) (held_in w.log) (Filling slot n) f s.homes = four_refilled setting docs deeds p v (told_in w.log) (held_in w.log) slot n w.filling f s.homes (λ z. sym r.filling ∙ same z) before in
       let m : Known W U X L = record k { filling = f } in
       let t : State (Cell D U) (Known W U X L) = record { words = s.words; homes = s.homes; views = set s.views id m } in
-      let known : Kept setting docs deeds p t = refilled s kept id k f at role (subst (λ (b : Task). Four setting docs deeds p v (told_in w.log) b f s.homes) (sym own) told) in
+      let known : Kept setting docs deeds p t = refilled s kept id k f at role (subst (λ (b : Task). Four setting docs deeds p v (told_in w.log) (held_in w.log) b f s.homes) (sym own) told) in
       let three : Three p v (released w.log) a (put 0 a w.tasks) s.words =
       three_filled p v (released w.log) w.tasks s.words kept.three slot a (ap claimed own) refl (ap unsettled own) refl
       (λ b g e. let q : Filling slot n ≡ Duty b g = sym own ∙ e in absurd (cc)) (λ b g e. let q : Filled slot (n + 1) ≡ Duty b g = e in absurd (cc)) (refl, clear) in
-      let four : Four setting docs deeds p v (told_in w.log) a f (homes_after s.homes me.1 gives) =
-      subst (λ (hs : List (ℕ × Cell D U)). Four setting docs deeds p v (told_in w.log) a f (homes_after s.homes hs gives)) (sym out) (four_laid setting docs deeds p v (told_in w.log) slot n d s.homes few clear.below clear.none more is unused told) in
+      let four : Four setting docs deeds p v (told_in w.log) (held_in w.log) a f (homes_after s.homes me.1 gives) =
+      subst (λ (hs : List (ℕ × Cell D U)). Four setting docs deeds p v (told_in w.log) (held_in w.log) a f (homes_after s.homes hs gives)) (sym out) (four_laid setting docs deeds p v (told_in w.log) (held_in w.log) slot n d s.homes few clear.below clear.none more is unused told) in
       let new : Me (Cell D U) (Known W U X L) = (record (looked m w.log w.pending) { hand = None; task = a; fresh = k.fresh }, rest me.1) in
-      let g = begins setting docs deeds p t known id i (slice_index s.words i) (m, me.1) a gives (at_set_same s.views id m k at) role (omega arith) (λ z. absurd (omega arith)) (read_same setting docs deeds p t known i a three) four in
+      let g = begins setting docs deeds p t known id i (slice_index s.words i) (m, me.1) a gives (at_set_same s.views id m k at) role (λ m _ z. absurd (none-some m z)) (omega arith) (λ z. absurd (omega arith)) (read_same setting docs deeds p t known i a three) four in
       let c = covers p w id k all kept.legal in (
         new.0,
         gives,

@@ -1,5 +1,5 @@
 -- What every kind of step's proof uses: facts about the views of all seats, and what a step leaves true of the other seats.
-use Rattle.std.proofs.Common.{◌≡◌, ◌≢◌, ◌⊎◌, ℕ, zero, suc, ◌≤◌, true, cond, eq-eqb, ne_eqb, List, [], ◌∷◌, ◌++◌, length, get_or, set, sym, refl, ap, ◌∙◌, subst, inl, inr, ⊎_elim, arith, append-nil, append_assoc, Option, Some, None}
+use Rattle.std.proofs.Common.{◌≡◌, ◌≢◌, ◌⊎◌, ℕ, zero, suc, ◌+◌, ◌≤◌, ◌<◌, true, cond, eq-eqb, ne_eqb, List, [], ◌∷◌, ◌++◌, length, get_or, set, sym, refl, ap, ◌∙◌, subst, inl, inr, ⊎_elim, arith, append-nil, append_assoc, Option, Some, None}
 use mathlib.Core.Logic.{dite}
 use native.Mathlib.Decide.{ℕ_discrete}
 use mathlib.Core.Option.{some, some-injective, some-ne-none}
@@ -7,6 +7,7 @@ use lib.ListN.{get_elem?}
 use Rattle.std.specs.Prelude.{◌==◌, slice_index}
 use Rattle.std.specs.List.{AllByRecursion}
 use Rattle.std.proofs.lemmas.List.Elements.{filter-append}
+use Rattle.std.proofs.lemmas.Option.{none-some}
 use Rattle.atomic_table.proofs.Lists.{at_set}
 use Rattle.registry_machine.specs.declared.entry.Entry.{Entry}
 use Rattle.registry_machine.specs.Callers.{mine}
@@ -21,9 +22,10 @@ use Rattle.searcher_table.specs.declared.board.Known.{Known}
 use Rattle.searcher_table.specs.Words.{call_word, code, limits}
 use Rattle.searcher_table.specs.Views.{StartsWith}
 use Rattle.searcher_table.specs.declared.board.Task.{Task}
-use Rattle.searcher_table.specs.declared.board.Task.TheVariants.{Idle}
+use Rattle.searcher_table.specs.declared.board.Task.TheVariants.{Idle, Back}
 use Rattle.searcher_table.specs.declared.board.Fresh.{Fresh}
-use Rattle.searcher_table.specs.Rule.{World, IsPass, IsHand, IsFresh, IsRegistrar, IsBack, Fits, One}
+use Rattle.searcher_table.specs.Tasks.{emptied}
+use Rattle.searcher_table.specs.Rule.{World, IsPass, IsHand, IsFresh, IsRegistrar, IsDone, IsBack, Fits, One}
 use Rattle.searcher_table.specs.Steps.{looked, Covers}
 
 module _ {A : Type 0} where
@@ -99,6 +101,25 @@ module _ {U X L : Type 0} where
   pub own_joined : (c : ℕ) (xs ys : List (Entry U X L)) → mine c (xs ++ ys) ≡ mine c xs ++ mine c ys
   own_joined c xs ys = filter-append (λ e. is_some_of c (caller_of e)) xs ys
 
+-- ---- passes that were taken back
+
+module _ {U X L : Type 0} where
+  -- their callers have begun nothing else
+  pub done_still : (tasks news : ℕ → Task) (o : Own U X L) → news o.caller ≡ tasks o.caller → IsDone tasks o → IsDone news o
+  done_still tasks news o same d = record { low = d.low; task = same ∙ d.task; unpinned = d.unpinned }
+
+-- what is none is no number
+pub not_some : {F : Type 0} (o : Option ℕ) (n : ℕ) → o ≡ None → o ≡ Some n → F
+not_some o n none is = absurd (none-some n (sym none ∙ is))
+
+-- nothing is taken out for good while a pass is out
+pub nothing_out : {W U X L : Type 0} (p : Plan W) (w : World U X L) (words : List ℕ) (views : List (Known W U X L)) → One p w words views → (c : ℕ) → 1 ≤ c → c < w.next → w.tasks c ≢ Back → emptied (w.tasks 0) ≡ None
+nothing_out p w words views one c low dealt out = by_count (emptied (w.tasks 0)) refl
+  where
+    by_count : (o : Option ℕ) → emptied (w.tasks 0) ≡ o → o ≡ None
+    by_count None is = refl
+    by_count (Some n) is = absurd (out (one.over n c is low (let f = one.few in omega arith)))
+
 -- ---- a step
 
 module _ {U X L : Type 0} where
@@ -157,7 +178,7 @@ module _ {W U X L : Type 0} where
       pass = λ c. record { here = (f.pass c).here; dealt = (f.pass c).dealt; calls = inl record { mine = refl; announced = refl }; task = own.begun (inl c) };
       hand = own.hands;
       fresh = own.freshes;
-      registrar = λ r. record { here = (f.registrar r).here; seen = record { rest = []; grown = sym (append-nil log); quiet = tt }; next = (f.registrar r).next; nobody = (f.registrar r).nobody; task = own.begun (inr r) ∙ ap tasks (f.registrar r).nobody; filling = (f.registrar r).filling };
+      registrar = λ r. record { here = (f.registrar r).here; seen = record { rest = []; grown = sym (append-nil log); quiet = tt }; next = (f.registrar r).next; nobody = (f.registrar r).nobody; task = own.begun (inr r) ∙ ap tasks (f.registrar r).nobody; filling = (f.registrar r).filling; final = λ _ _. refl };
       back = own.backs;
     }
 
@@ -165,8 +186,9 @@ module _ {W U X L : Type 0} where
     pub one_after : (words news : List ℕ) (views : List (Known W U X L)) → One p w words views → get_elem? views id ≡ some k → Leaves W (limits p) w now id
         → ((c : ℕ) → 1 ≤ c → c ≤ 64 → slice_index news (call_word c) ≡ code (pending c))
         → ((c : ℕ) → w.next ≤ c → (pending c ≡ None) × (mine c log ≡ []) × (tasks c ≡ Idle))
+        → ((n c : ℕ) → emptied (tasks 0) ≡ Some n → 1 ≤ c → c ≤ p.callers → tasks c ≡ Back)
         → Owns → One p now news (set views id knowing)
-    one_after words news views one at keeps calls undealt own = record {
+    one_after words news views one at keeps calls undealt over own = record {
       calls = calls;
       fits = each_set (Fits p now) views id knowing
           (fits_now (one.fits id k at) own)
@@ -174,6 +196,7 @@ module _ {W U X L : Type 0} where
       undealt = undealt;
       first = one.first;
       few = one.few;
+      over = over;
     }
 
   -- the history of the table covers what a seat knows of it

@@ -20,11 +20,11 @@ use Rattle.searcher_table.specs.declared.board.Cell.{Cell}
 use Rattle.searcher_table.specs.declared.board.Plan.{Plan}
 use Rattle.searcher_table.specs.declared.board.Known.{Known}
 use Rattle.searcher_table.specs.declared.board.Task.{Task}
-use Rattle.searcher_table.specs.declared.board.Task.TheVariants.{Idle, Found, Claimed, Filled, Filling, Unsettled, Duty}
+use Rattle.searcher_table.specs.declared.board.Task.TheVariants.{Idle, Found, Claimed, Filled, Filling, Unsettled, Duty, Back, Emptied}
 use Rattle.searcher_table.specs.declared.board.Fresh.{Fresh}
 use Rattle.searcher_table.specs.Words.{word_count, current_word, mask_word, limits}
 use Rattle.searcher_table.specs.Counts.{releases, pinned, NamesCaller}
-use Rattle.searcher_table.specs.Tasks.{claimed, unsettled, IsDuty, IsTask, IsWarming, Three}
+use Rattle.searcher_table.specs.Tasks.{claimed, unsettled, emptied, IsDuty, IsTask, IsWarming, Three}
 use Rattle.searcher_table.specs.Rule.{Two, released, Kept}
 use Rattle.searcher_table.specs.Steps.{looked, HasMade, Freed}
 use Rattle.searcher_table.proofs.Frame.{put, put_here, put_else, Acts, own_task, covers}
@@ -36,8 +36,8 @@ use Rattle.searcher_table.proofs.Beside.{Apart, first_within, not_counted, two_e
 use Rattle.searcher_table.proofs.Bits.{with, marked_here, marked_else, slots_beside}
 use Rattle.searcher_table.proofs.Slotted.{three_after, settled_parts}
 use Rattle.searcher_table.proofs.Slotting.{three_freed}
-use Rattle.searcher_table.specs.Doors.{laid, reached, told_in, Four}
-use Rattle.searcher_table.proofs.Doors.{told_next, four_freed}
+use Rattle.searcher_table.specs.Doors.{laid, reached, told_in, held_in, Four}
+use Rattle.searcher_table.proofs.Doors.{told_next, held_next, four_freed}
 use Rattle.searcher_table.proofs.Turning.{turns}
 
 -- ---- who can pin
@@ -47,7 +47,7 @@ named_not c out None n = refl
 named_not c out (Some d) n = let a = n.0 in let b = n.1 in ne_eqb d c (λ e. ⊎_elim (λ z. absurd (omega arith)) (λ z. absurd (omega arith)) out)
 
 module _ {U X L : Type 0} where
-  none_own : (c : ℕ) → (c ≡ 0) ⊎ (64 < c) → (es : List (Entry U X L)) → AllByRecursion NamesCaller es → mine c es ≡ []
+  pub none_own : (c : ℕ) → (c ≡ 0) ⊎ (64 < c) → (es : List (Entry U X L)) → AllByRecursion NamesCaller es → mine c es ≡ []
   none_own c out [] named = refl
   none_own c out (e ∷ es) named = ap (λ b. cond b (e ∷ mine c es) (mine c es)) (named_not c out (caller_of e) named.0) ∙ none_own c out es named.1
 
@@ -72,6 +72,8 @@ module _ {W : Type 0} (p : Plan W) (s : State) (own : Task) (rel : ℕ → ℕ) 
   claimed_none (Filling b n) slot h e = ap s.slots (sym (same_Some b slot e)) ∙ h.1.none
   claimed_none (Unsettled b g total) slot h e = absurd (none-some slot e)
   claimed_none (Duty b g) slot h e = absurd (none-some slot e)
+  claimed_none Back slot h e = absurd (none-some slot e)
+  claimed_none (Emptied n) slot h e = absurd (none-some slot e)
 
 -- who frees has claimed nothing and leaves nothing to tell
 same_of : {A : Type 0} (f : Task → A) (tasks : ℕ → Task) (c slot g : ℕ) → f Idle ≡ f (Duty slot g) → tasks c ≡ Duty slot g → f (put c Idle tasks 0) ≡ f (tasks 0)
@@ -107,9 +109,9 @@ module _ {D W U X L : Type 0} (setting : D → W) (docs : D → X) (deeds : D �
       (same_of claimed w.tasks c slot g refl own) (same_of unsettled w.tasks c slot g refl own)
       (λ z. none-some g (sym (claimed_none p v (w.tasks 0) (released w.log) s.words (w.tasks 0) slot (kept.three.begun 0) z) ∙ d.opened))
       (marked_here s.words slot kept.words low) (marked_else s.words slot kept.words low) (slots_beside s.words slot x kept.words low)) in
-      let four : Four setting docs deeds p (state_of l log) (told_in log) (put c Idle w.tasks 0) w.filling s.homes =
-      subst (λ (z : State × (ℕ → ℕ → Option X × List L)). Four setting docs deeds p z.0 z.1 (put c Idle w.tasks 0) w.filling s.homes) (λ j. (sym next j, λ h d. sym (told_next w.log e h d) j))
-      (four_freed setting docs deeds p v (told_in w.log) (w.tasks 0) (put c Idle w.tasks 0) g w.filling s.homes may.not_pinned (same_of reached w.tasks c slot g refl own) (same_of laid w.tasks c slot g refl own) kept.four) in
+      let four : Four setting docs deeds p (state_of l log) (told_in log) (held_in log) (put c Idle w.tasks 0) w.filling s.homes =
+      subst (λ (z : State × (ℕ → ℕ → Option X × List L) × (ℕ → Option ℕ)). Four setting docs deeds p z.0 z.1 z.2 (put c Idle w.tasks 0) w.filling s.homes) (λ j. (sym next j, (λ h d. sym (told_next w.log e h d) j), (λ b. sym (held_next w.log e b) j)))
+      (four_freed setting docs deeds p v (told_in w.log) (held_in w.log) (w.tasks 0) (put c Idle w.tasks 0) g w.filling s.homes may.not_pinned (same_of reached w.tasks c slot g refl own) (same_of laid w.tasks c slot g refl own) (same_of emptied w.tasks c slot g refl own) kept.four) in
       let kept_slot : (h a : ℕ) → h ≢ g → v.slots a ≡ Some h → (after v e).slots a ≡ Some h = λ h a away z. ap (λ o. cond (is_some_of g o) None o) z ∙ ap (λ t. cond t None (Some h)) (ne_eqb h g away) in
       let apart : Apart l w.log e = record {
         current = refl;
@@ -127,7 +129,7 @@ module _ {D W U X L : Type 0} (setting : D → W) (docs : D → X) (deeds : D �
         new.0,
         keeps,
         tt,
-        turns setting docs deeds p s kept id i (f (slice_index s.words i)) me log (e ∷ []) Idle k.fresh w.fresh_at keeps at acts (omega arith) refl (refl, tt) (inl (refl, tt)) legal two
+        turns setting docs deeds p s kept id i (f (slice_index s.words i)) me log (e ∷ []) Idle k.fresh w.fresh_at keeps at acts (λ _ z. let q : Duty slot g ≡ Back = sym duty ∙ z in absurd (cc)) (λ m _ z. absurd (none-some m z)) (omega arith) refl (refl, tt) (inl (refl, tt)) legal two
             (subst (λ (z : ℕ × ℕ). Three p (state_of l log) (released log) (put c Idle w.tasks 0) (put c Idle w.tasks) (set s.words z.0 z.1)) (λ j. (sym at_word j, sym value j)) three)
             four
             (λ j h away z. (z.here, warm h z.warming))

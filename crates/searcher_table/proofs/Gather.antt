@@ -52,8 +52,8 @@ module _ {W U X L : Type 0} where
         pass = λ c. let i = f.pass c in record { here = i.here; dealt = i.dealt; calls = i.calls; task = i.task };
         hand = λ h e. to h (g.hand h e);
         fresh = λ h e. give h (g.fresh h e);
-        registrar = λ r. let i = f.registrar r in record { here = i.here; seen = i.seen; next = i.next; nobody = i.nobody; task = i.task; filling = i.filling };
-        back = all_map (IsBack w id) (IsBack v id) (λ b i. record { here = i.here; dealt = i.dealt; mine = i.mine; none = i.none }) k.back f.back;
+        registrar = λ r. let i = f.registrar r in record { here = i.here; seen = i.seen; next = i.next; nobody = i.nobody; task = i.task; filling = i.filling; final = i.final };
+        back = all_map (IsBack w id) (IsBack v id) (λ b i. record { here = i.here; dealt = i.dealt; mine = i.mine; none = i.none; done = i.done }) k.back f.back;
       } in
       record {
         words = kept.words;
@@ -70,5 +70,6 @@ module _ {W U X L : Type 0} where
           undealt = kept.one.undealt;
           first = kept.one.first;
           few = kept.one.few;
+          over = kept.one.over;
         };
       }

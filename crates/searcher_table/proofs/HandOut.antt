@@ -33,8 +33,8 @@ module _ {W U X L : Type 0} where
     pass = λ c. let g = f.pass c in record { here = g.here; dealt = g.dealt; calls = g.calls; task = g.task };
     hand = hands;
     fresh = freshes;
-    registrar = λ r. let g = f.registrar r in record { here = g.here; seen = g.seen; next = g.next; nobody = g.nobody; task = g.task; filling = g.filling };
-    back = all_map (IsBack w j) (IsBack v j) (λ o g. record { here = g.here; dealt = g.dealt; mine = g.mine; none = g.none }) k.back f.back;
+    registrar = λ r. let g = f.registrar r in record { here = g.here; seen = g.seen; next = g.next; nobody = g.nobody; task = g.task; filling = g.filling; final = g.final };
+    back = all_map (IsBack w j) (IsBack v j) (λ o g. record { here = g.here; dealt = g.dealt; mine = g.mine; none = g.none; done = g.done }) k.back f.back;
   }
 
   pub without_hand : (p : Plan W) (w : World U X L) (id : ℕ) (k : Known W U X L) → Fits p w id k → Fits p w id (kept_back k)
@@ -45,7 +45,7 @@ module _ {W U X L : Type 0} where
     pass = λ c. let g = f.pass c in record { here = g.here; dealt = g.dealt; calls = g.calls; task = g.task };
     hand = λ h e. absurd (none-some h e);
     fresh = λ h e. absurd (none-some h e);
-    registrar = λ r. let g = f.registrar r in record { here = g.here; seen = g.seen; next = g.next; nobody = g.nobody; task = g.task; filling = g.filling };
+    registrar = λ r. let g = f.registrar r in record { here = g.here; seen = g.seen; next = g.next; nobody = g.nobody; task = g.task; filling = g.filling; final = g.final };
     back = f.back;
   }
 
@@ -90,6 +90,7 @@ module _ {W U X L : Type 0} where
           undealt = kept.one.undealt;
           first = kept.one.first;
           few = kept.one.few;
+          over = kept.one.over;
         };
       }
 
@@ -120,5 +121,6 @@ module _ {W U X L : Type 0} where
           undealt = kept.one.undealt;
           first = kept.one.first;
           few = kept.one.few;
+          over = kept.one.over;
         };
       }

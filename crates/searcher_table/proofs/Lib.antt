@@ -16,6 +16,7 @@ pub mod Beside
 pub mod Current
 pub mod Slotted
 pub mod Slotting
+pub mod Holding
 pub mod Doors
 pub mod Showing
 pub mod Turning
@@ -38,4 +39,6 @@ pub mod Row
 pub mod TakeBack
 pub mod Ending
 pub mod Settling
-pub mod Ended
+pub mod Settled
+pub mod Closing
+pub mod Once

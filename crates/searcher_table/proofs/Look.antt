@@ -39,7 +39,7 @@ module _ {D W U X L : Type 0} (setting : D → W) (docs : D → X) (deeds : D �
           one = one_after p w w.log w.pending w.hand_at w.tasks w.fresh_at id me.0 me.0.hand me.0.task me.0.fresh s.words (set s.words i (get_or s.words i 0)) s.views kept.one at
               record { log = λ _ t. t; passes = λ _ _ _ _ t. t; hands = λ _ _ _ t. t; freshes = λ _ _ _ t. t; registrars = λ _ _ _ t. t; backs = λ _ _ _ t. t }
               (λ c low high. subst (λ (ws : List ℕ). slice_index ws (call_word c) ≡ code (w.pending c)) (sym same) (kept.one.calls c low high))
-              kept.one.undealt record { hands = f.hand; freshes = f.fresh; begun = own_task p w id me.0 f; backs = f.back };
+              kept.one.undealt kept.one.over record { hands = f.hand; freshes = f.fresh; begun = own_task p w id me.0 f; backs = f.back };
         },
         told w.log s.words (looked me.0 w.log w.pending, me.1) kept.two kept.legal record {
           log = w.log;

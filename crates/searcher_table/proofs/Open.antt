@@ -3,7 +3,7 @@ use Rattle.std.proofs.Common.{◌≡◌, ◌≢◌, ℕ, ◌+◌, ◌<◌, ◌�
 use mathlib.Core.Option as maybe
 use prog.Atomic.{either}
 use Rattle.std.specs.Prelude.{◌==◌}
-use Rattle.std.proofs.lemmas.Option.{same_Some}
+use Rattle.std.proofs.lemmas.Option.{same_Some, none-some}
 use Rattle.atomic_table.specs.Table.{Me, Allows, step}
 use Rattle.registry_machine.specs.declared.entry.Entry.{Entry}
 use Rattle.registry_machine.specs.Machine.{State, is_in}
@@ -28,8 +28,9 @@ use Rattle.searcher_table.proofs.Standing.{bounded}
 use Rattle.searcher_table.proofs.Beside.{AreSame, call_beside, few_slots, first_within, kept_open, never_released, not_counted, opening_apart}
 use Rattle.searcher_table.proofs.Slotted.{three_words, three_after, slots_same}
 use Rattle.searcher_table.proofs.Slotting.{three_opened}
-use Rattle.searcher_table.specs.Doors.{shown_in, left_in, told_in, Four}
-use Rattle.searcher_table.proofs.Doors.{told_next, four_opened}
+use Rattle.searcher_table.specs.Doors.{shown_in, left_in, told_in, held_in, Four}
+use Rattle.searcher_table.proofs.Doors.{told_next, held_next, four_opened}
+use Rattle.searcher_table.proofs.Holding.{are_held}
 use Rattle.searcher_table.proofs.Execute.{executes}
 
 -- what is given, if anything is
@@ -66,6 +67,7 @@ module _ {D W U X L : Type 0} (setting : D → W) (docs : D → X) (deeds : D �
       let r = (kept.one.fits id me.0 at).registrar role in
       let v : State = state_of l w.log in
       let b = bounded l w.log (first_within p kept.two.sizes) kept.legal in
+      let held = are_held l w.log kept.legal in
       let olds : (b h : ℕ) → v.slots b ≡ Some h → h ≢ g = λ a h opened same. (let o = b.slots.opened a h opened in let n = may.next in absurd (omega arith)) in
       let words : Three p v (released w.log) (w.tasks 0) w.tasks (set s.words i 0) =
       three_words p v (released w.log) w.tasks (few_slots p kept.two.sizes) s.words (set s.words i 0) (slots_same s.words (set s.words i 0) (subst (λ (n : ℕ). AreSame s.words (set s.words n 0)) (sym at_word) (call_beside s.words h.caller 0))) kept.three in
@@ -73,14 +75,18 @@ module _ {D W U X L : Type 0} (setting : D → W) (docs : D → X) (deeds : D �
       let next = state_next l w.log e in
       record {
         fresh_at = put g id w.fresh_at;
+        over = λ m _ z. absurd (none-some m z);
         three = three_after p w.log e Idle (put 0 Idle w.tasks) (set s.words i 0) (λ h. not_counted (releases h) w.log e refl) after_it;
         four =
-            let before : Four setting docs deeds p v (told_in w.log) (Filled slot n) (Some x) s.homes =
-            subst (λ (z : Task × Option X). Four setting docs deeds p v (told_in w.log) z.0 z.1 s.homes) (λ j. ((sym r.task ∙ full) j, (sym r.filling ∙ shows) j)) kept.four in
-            subst (λ (z : State × Option X). Four setting docs deeds p z.0 (told_in (w.log ++ e ∷ [])) Idle z.1 s.homes) (λ j. (sym next j, (sym shows ∙ r.filling) j))
-            (four_opened setting docs deeds p v (told_in w.log) (told_in (w.log ++ e ∷ [])) slot n h.caller g h.asked.content x s.homes all may.free olds
+            let before : Four setting docs deeds p v (told_in w.log) (held_in w.log) (Filled slot n) (Some x) s.homes =
+            subst (λ (z : Task × Option X). Four setting docs deeds p v (told_in w.log) (held_in w.log) z.0 z.1 s.homes) (λ j. ((sym r.task ∙ full) j, (sym r.filling ∙ shows) j)) kept.four in
+            subst (λ (z : State × Option X). Four setting docs deeds p z.0 (told_in (w.log ++ e ∷ [])) (held_in (w.log ++ e ∷ [])) Idle z.1 s.homes) (λ j. (sym next j, (sym shows ∙ r.filling) j))
+            (four_opened setting docs deeds p v (told_in w.log) (told_in (w.log ++ e ∷ [])) (held_in w.log) (held_in (w.log ++ e ∷ [])) slot n h.caller g h.asked.content x s.homes all may.free olds
             (λ y d at. told_next w.log e y d ∙ (λ j. (cond (eq-eqb y g at j) (Some x) (shown_in w.log y), cond (eq-eqb y g at j) [] (left_in w.log y d))))
-            (λ y d away. told_next w.log e y d ∙ (λ j. (cond (ne_eqb y g away j) (Some x) (shown_in w.log y), cond (ne_eqb y g away j) [] (left_in w.log y d)))) before);
+            (λ y d away. told_next w.log e y d ∙ (λ j. (cond (ne_eqb y g away j) (Some x) (shown_in w.log y), cond (ne_eqb y g away j) [] (left_in w.log y d))))
+            (λ a y is same. (let o = held.below a y is in let n = may.next in absurd (omega arith)))
+            (held_next w.log e slot ∙ ap (λ b. cond b (Some g) (held_in w.log slot)) (eq-eqb slot slot refl))
+            (λ a away. held_next w.log e a ∙ ap (λ b. cond b (Some g) (held_in w.log a)) (ne_eqb a slot away)) before);
         others = λ j f away (i : IsFresh w j l f). (
           put_else g id w.fresh_at f.generation (olds f.slot f.generation i.warming.opened) ∙ i.here,
           subst (λ (z : State). IsWarming z f) (sym next) record { warming = in_still f.generation g v.warming i.warming.warming; opened = kept_open v.slots slot g f.slot f.generation may.free i.warming.opened },

@@ -22,16 +22,17 @@ use Rattle.searcher_table.specs.Words.{word_count, current_word, slot_word, pack
 use Rattle.searcher_table.specs.Counts.{is_acquire, is_not_yet, releases, pinned, NamesCaller}
 use Rattle.searcher_table.specs.Rule.{CountsTooEarly, IsPacked, Two, released, Kept}
 use Rattle.searcher_table.specs.declared.board.Task.{Task}
-use Rattle.searcher_table.specs.declared.board.Task.TheVariants.{Idle, Duty}
+use Rattle.searcher_table.specs.declared.board.Task.TheVariants.{Idle, Duty, Back}
 use Rattle.searcher_table.specs.Tasks.{is_settled, IsTask, Three}
-use Rattle.searcher_table.specs.Doors.{cell_of, shown_in, left_in, left_after, told_in, IsDoor, IsDoorLeft, Four}
-use Rattle.searcher_table.proofs.Doors.{cell_below, told_next, filled_none, four_own}
+use Rattle.searcher_table.specs.Doors.{cell_of, shown_in, left_in, left_after, told_in, held_in, IsDoor, IsDoorLeft, Four}
+use Rattle.searcher_table.proofs.Doors.{cell_below, told_next, held_next, filled_none, four_own}
 use Rattle.searcher_table.proofs.Showing.{shown_stays}
 use Rattle.searcher_table.specs.Steps.{looked, duty_by, HasMade, Released}
 use Rattle.searcher_table.proofs.Slotted.{three_released}
 use Rattle.searcher_table.proofs.Frame.{put, covers}
 use Rattle.searcher_table.proofs.Execute.{grows_legal}
 use Rattle.searcher_table.proofs.Counts.{counts_last, not_own, pins_own, few_acquired, pinned_counts}
+use Rattle.searcher_table.proofs.Holding.{are_held}
 use Rattle.searcher_table.proofs.Standing.{bounded, slot_stays}
 use Rattle.searcher_table.proofs.Beside.{own_last, not_counted, all_snoc, open_below, first_within}
 use Rattle.searcher_table.proofs.Quiet.{state_next}
@@ -152,17 +153,17 @@ module _ {L : Type 0} (U X : Type 0) (c g : ℕ) (ls : List L) (left : ℕ → �
 
 -- the act of a release: the door is back in its cell
 module _ {D W U X L : Type 0} (setting : D → W) (docs : D → X) (deeds : D → List L) (p : Plan W) (log : List (Entry U X L)) (c slot g : ℕ) (own : Task) (filling : Option X) (homes : List (maybe.Option (Cell D U))) (d : D) where
-  gives_by : (rel : ℕ → ℕ) (words : List ℕ) → Four setting docs deeds p (state_of (limits p) log) (told_in log) own filling homes → p.callers ≤ 64 → 1 ≤ c → c ≤ p.callers → (state_of (limits p) log).pins c ≡ Some g
+  gives_by : (rel : ℕ → ℕ) (words : List ℕ) → Four setting docs deeds p (state_of (limits p) log) (told_in log) (held_in log) own filling homes → ((a b h : ℕ) → held_in log a ≡ Some h → held_in log b ≡ Some h → a ≡ b) → p.callers ≤ 64 → 1 ≤ c → c ≤ p.callers → (state_of (limits p) log).pins c ≡ Some g
       → (state_of (limits p) log).slots slot ≡ Some g → slot < (limits p).slots → IsTask p (state_of (limits p) log) own rel words 0 own → ((b : ℕ) → (state_of (limits p) log).slots b ≡ Some g → b ≡ slot) → IsDoor setting docs p (shown_in log g) d
-      → Four setting docs deeds p (after {U = U} {D = X} {L = L} (state_of (limits p) log) (Release c g (deeds d))) (told_in (log ++ Release c g (deeds d) ∷ [])) own filling (set homes (cell_of slot c) (some (Full d)))
-  gives_by rel words four few low within pins here below begun one is =
+      → Four setting docs deeds p (after {U = U} {D = X} {L = L} (state_of (limits p) log) (Release c g (deeds d))) (told_in (log ++ Release c g (deeds d) ∷ [])) (held_in (log ++ Release c g (deeds d) ∷ [])) own filling (set homes (cell_of slot c) (some (Full d)))
+  gives_by rel words four once few low within pins here below begun one is =
       let s : State = state_of (limits p) log in
       let e : Entry U X L = Release c g (deeds d) in
       let cell : ℕ = cell_of slot c in
       let in_it : cell < 64 * (limits p).slots = cell_below slot c (limits p).slots below low (omega arith) in
       let long = four.size in
-      four_own setting docs deeds p s (after {U = U} {D = X} {L = L} s e) (told_in log) (told_in (log ++ e ∷ [])) own filling homes (set homes cell (some (Full d))) slot g c four few here low (omega arith) one (filled_none p s own rel words own begun)
-      (λ _. refl) (λ b other. ap (λ z. cond z None (s.pins b)) (ne_eqb b c other)) (λ h away z. away (same_Some h g (sym z ∙ pins))) (λ h b away. told_next log e h b ∙ (λ i. (shown_in log h, still_left U X c g (deeds d) (left_in log) h b away i)))
+      four_own setting docs deeds p s (after {U = U} {D = X} {L = L} s e) (told_in log) (told_in (log ++ e ∷ [])) (held_in log) (held_in (log ++ e ∷ [])) own filling homes (set homes cell (some (Full d))) slot g c four few here low (omega arith) one (filled_none p s own rel words own begun)
+      (λ _. refl) (λ b other. ap (λ z. cond z None (s.pins b)) (ne_eqb b c other)) (λ h away z. away (same_Some h g (sym z ∙ pins))) (λ h b away. told_next log e h b ∙ (λ i. (shown_in log h, still_left U X c g (deeds d) (left_in log) h b away i))) (λ b. held_next log e b) (λ b z. once b slot g z (four.opened slot g here))
       (length-set homes cell (some (Full d))) (λ j away. set_else homes cell j (some (Full d)) away)
       (λ _. (d, set_here homes cell (some (Full d)) (omega arith), subst (λ (o : Option X × List L). IsDoorLeft setting docs deeds p o d) (sym (told_next log e g c ∙ (λ i. (shown_in log g, now_left U X c g (deeds d) (left_in log) i)))) (is, refl)))
 
@@ -193,16 +194,16 @@ module _ {D W U X L : Type 0} (setting : D → W) (docs : D → X) (deeds : D �
       (three_later p w.log (deeds d) s.words w.tasks c g slot x kept.words kept.legal kept.two kept.three low few pins here (sym (all.pass low).task ∙ idle) (omega arith) is) in
       let b = bounded l w.log (first_within p kept.two.sizes) kept.legal in
       let cell : ℕ = cell_of slot c in
-      let four_here : Four setting docs deeds p (after (state_of l w.log) e) (told_in log) (w.tasks 0) w.filling (set s.homes cell (some (Full d))) =
-      gives_by setting docs deeds p w.log c slot g (w.tasks 0) w.filling s.homes d (released w.log) s.words kept.four kept.two.sizes.callers low (omega arith) pins here (b.below slot g here) (kept.three.begun 0) (λ a z. b.one a slot g z here)
+      let four_here : Four setting docs deeds p (after (state_of l w.log) e) (told_in log) (held_in log) (w.tasks 0) w.filling (set s.homes cell (some (Full d))) =
+      gives_by setting docs deeds p w.log c slot g (w.tasks 0) w.filling s.homes d (released w.log) s.words kept.four (are_held l w.log kept.legal).once kept.two.sizes.callers low (omega arith) pins here (b.below slot g here) (kept.three.begun 0) (λ a z. b.one a slot g z here)
       (subst (λ (o : Option X). IsDoor setting docs p o d) (sym (shown_stays l w.log k.seen all.seen.0 slot g (first_within p kept.two.sizes) kept.legal all.seen.1 opened)) is_door) in
-      let four : Four setting docs deeds p (after (state_of l w.log) e) (told_in log) (w.tasks 0) w.filling (homes_after s.homes me.1 gives) =
-      subst (λ (hs : List (ℕ × Cell D U)). Four setting docs deeds p (after (state_of l w.log) e) (told_in log) (w.tasks 0) w.filling (homes_after s.homes hs gives)) (sym out) four_here in
+      let four : Four setting docs deeds p (after (state_of l w.log) e) (told_in log) (held_in log) (w.tasks 0) w.filling (homes_after s.homes me.1 gives) =
+      subst (λ (hs : List (ℕ × Cell D U)). Four setting docs deeds p (after (state_of l w.log) e) (told_in log) (held_in log) (w.tasks 0) w.filling (homes_after s.homes hs gives)) (sym out) four_here in
       let new : Me (Cell D U) (Known W U X L) = (record (looked k log w.pending) { hand = None; task = task; fresh = k.fresh }, me.1) in (
         new.0,
         gives,
         tt,
-        own_step setting docs deeds p s kept id i x me e task gives at low bare (omega arith) refl refl pins later slots four (λ f z. record { warming = z.warming; opened = z.opened }),
+        own_step setting docs deeds p s kept id i x me e task gives at low (λ z. let q : Idle ≡ Back = sym idle ∙ z in absurd (cc)) bare (omega arith) refl refl pins later slots four (λ f z. record { warming = z.warming; opened = z.opened }),
         λ t h x at_slot same carried. (
           subst (λ (n : (ℕ × ℕ) × D). HasMade (Release c n.0.1 (deeds n.1)) (duty_by (slice_index s.words i) n.0.0 n.0.1) me new)
               (λ j. (((let q : slot ≡ t = omega arith in q) j, same_Some g h (sym holds ∙ same) j), ap (door_in d) (sym out ∙ carried) j)) record {

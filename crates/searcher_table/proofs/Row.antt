@@ -5,7 +5,7 @@ use Rattle.searcher_table.specs.declared.pass.Pass.{Pass}
 use Rattle.searcher_table.specs.declared.registrar.Registrar.{Registrar}
 use Rattle.searcher_table.specs.Making.{IsNewPass, ArePassesOf, HasDealt}
 
-got_last : {A : Type 0} (xs : List A) (a x : A) (i : ℕ) → slice_get (xs ++ a ∷ []) i ≡ Some x → (slice_get xs i ≡ Some x) ⊎ ((i ≡ length xs) × (a ≡ x))
+pub got_last : {A : Type 0} (xs : List A) (a x : A) (i : ℕ) → slice_get (xs ++ a ∷ []) i ≡ Some x → (slice_get xs i ≡ Some x) ⊎ ((i ≡ length xs) × (a ≡ x))
 got_last [] a x zero e = inr (refl, (let p : Some a ≡ Some x = e in cc))
 got_last [] a x (suc i) e = let p : None ≡ Some x = e in absurd (cc)
 got_last (y ∷ ys) a x zero e = inl e

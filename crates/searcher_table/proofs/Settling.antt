@@ -16,16 +16,16 @@ use Rattle.searcher_table.specs.declared.board.Known.{Known}
 use Rattle.searcher_table.specs.declared.board.Task.{Task}
 use Rattle.searcher_table.specs.declared.board.Task.TheVariants.{Idle, Unsettled, Duty}
 use Rattle.searcher_table.specs.Words.{slot_word, mask_word, limits}
-use Rattle.searcher_table.specs.Tasks.{claimed, unsettled, is_settled, IsUnsettled, IsDuty, IsTask, Three}
+use Rattle.searcher_table.specs.Tasks.{claimed, unsettled, emptied, is_settled, IsUnsettled, IsDuty, IsTask, Three}
 use Rattle.searcher_table.specs.Rule.{released, Kept}
 use Rattle.searcher_table.specs.Steps.{looked, settled_by, HasTold, Settled}
-use Rattle.searcher_table.proofs.Frame.{put, covers}
+use Rattle.searcher_table.proofs.Frame.{put, not_some, covers}
 use Rattle.searcher_table.proofs.Counts.{balance_of_all, few_acquired}
 use Rattle.searcher_table.proofs.Standing.{bounded}
 use Rattle.searcher_table.proofs.Beside.{first_within, open_below}
 use Rattle.searcher_table.proofs.Slotted.{own_is, idle_duty, duty_parts, settled_parts, map_duty, begun_by, duty_still, was_duty}
 use Rattle.searcher_table.proofs.Freeing.{nothing_pinned}
-use Rattle.searcher_table.specs.Doors.{reached, told_in}
+use Rattle.searcher_table.specs.Doors.{laid, reached, told_in, held_in}
 use Rattle.searcher_table.proofs.Doors.{claims_none, four_begun}
 use Rattle.searcher_table.proofs.Claiming.{begins, own_is as task_is}
 
@@ -155,8 +155,8 @@ module _ {D W U X L : Type 0} (setting : D → W) (docs : D → X) (deeds : D �
       let three : Three p v (released w.log) a (put 0 a w.tasks) news =
       three_settled p v (released w.log) w.tasks s.words news kept.three slot g total own a low (λ c z. b.one c slot g z here.opened) (nothing_pinned p w.log kept.two.named) kinds.0 kinds.1 kinds.2
       (get_or-set_same s.words (slot_word slot) x 0 (omega arith) ∙ sum) (λ j away. get_or-set_other s.words (slot_word slot) j x 0 away) in
-      let goes = begins setting docs deeds p s kept id (slot_word slot) x me a keeps at role (omega arith) (λ z. absurd (omega arith)) three
-      (four_begun setting docs deeds p v (told_in w.log) (w.tasks 0) a w.filling s.homes (ap reached own) (claims_none a kinds.1).1 kept.four) in (
+      let goes = begins setting docs deeds p s kept id (slot_word slot) x me a keeps at role (λ m _ z. not_some (emptied a) m (⊎_elim (λ y. ap emptied y.0) (λ y. ap emptied y.0) kinds.2) z) (omega arith) (λ z. absurd (omega arith)) three
+      (four_begun setting docs deeds p v (told_in w.log) (held_in w.log) (w.tasks 0) a w.filling s.homes (ap reached own) (ap (λ (z : Task). (laid z).1) own) (ap emptied own) (claims_none a kinds.1).1 kept.four) in (
         record (looked k w.log w.pending) { hand = None; task = settled_by (slice_index s.words i) slot g total; fresh = k.fresh },
         keeps,
         tt,

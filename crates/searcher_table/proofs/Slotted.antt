@@ -11,7 +11,7 @@ use Rattle.registry_machine.specs.Machine.{State, is_in, is_some_of, after}
 use Rattle.registry_machine.proofs.Lists.{true_and_false, test_same}
 use Rattle.searcher_table.specs.declared.board.Plan.{Plan}
 use Rattle.searcher_table.specs.declared.board.Task.{Task}
-use Rattle.searcher_table.specs.declared.board.Task.TheVariants.{Idle, Found, Claimed, Filled, Filling, Unsettled, Duty}
+use Rattle.searcher_table.specs.declared.board.Task.TheVariants.{Idle, Found, Claimed, Filled, Filling, Unsettled, Duty, Back, Emptied}
 use Rattle.searcher_table.specs.Words.{slot_word, mask_word, bit_of, limits}
 use Rattle.searcher_table.specs.Tasks.{unsettled, is_settled, IsFree, IsClear, IsUnsettled, IsDuty, IsTask, Three}
 use Rattle.registry_machine.specs.Legal.{state_of}
@@ -82,6 +82,8 @@ module _ {W : Type 0} (p : Plan W) (s t : State) (own now : Task) (rel new : ℕ
   map_task free none clear (Filling slot n) untold duty h = (h.0, clear slot h.0 h.1)
   map_task free none clear (Unsettled slot g total) untold duty h = (h.0, untold slot g total h.0 refl h.1)
   map_task free none clear (Duty slot g) untold duty h = duty slot g refl h
+  map_task free none clear Back untold duty h = tt
+  map_task free none clear (Emptied n) untold duty h = tt
 
   -- and so for a caller
   pub map_duty : c ≢ 0 → (a : Task) → ((slot g : ℕ) → a ≡ Duty slot g → IsDuty p s own rel c slot g → IsDuty p t now new c slot g) → IsTask p s own rel words c a → IsTask p t now new news c a
@@ -103,6 +105,27 @@ module _ (tasks : ℕ → Task) (c : ℕ) (a : Task) where
   was_duty d slot g is = dite (ℕ_discrete d c)
       (λ same. inl (same, sym (ap (put c a tasks) same ∙ put_here c a tasks) ∙ is))
       (λ other. inr (other, sym (put_else c a tasks d other) ∙ is))
+
+-- a pass that has begun nothing is taken back
+module _ {W : Type 0} (p : Plan W) (s : State) (rel : ℕ → ℕ) (tasks : ℕ → Task) (words : List ℕ) (c : ℕ) where
+  back_duty : (slot g : ℕ) → Back ≡ Duty slot g → ⊥
+  back_duty slot g e = let q : Back ≡ Duty slot g = e in absurd (cc)
+
+  pub three_back : 1 ≤ c → tasks c ≡ Idle → Three p s rel (tasks 0) tasks words → Three p s rel (put c Back tasks 0) (put c Back tasks) words
+  three_back low idle three = subst (λ (own : Task). Three p s rel own (put c Back tasks) words) (sym (put_else c Back tasks 0 (λ z. absurd (omega arith)))) record {
+    masks = three.masks;
+    counts = three.counts;
+    begun = begun_by p s (tasks 0) rel words tasks c Back tt (λ d _. three.begun d);
+    drained = λ slot g is settled out. let d = three.drained slot g is settled out in
+        (d.0, duty_still tasks c Back d.0 slot g d.1 (λ z. idle_duty slot g (sym idle ∙ ap tasks (sym z) ∙ d.1)));
+    alone = λ d e x y g i j. ⊎_elim
+        (λ (m : (d ≡ c) × (Back ≡ Duty x g)). absurd (back_duty x g m.1))
+        (λ (m : (d ≢ c) × (tasks d ≡ Duty x g)). ⊎_elim
+        (λ (n : (e ≡ c) × (Back ≡ Duty y g)). absurd (back_duty y g n.1))
+        (λ (n : (e ≢ c) × (tasks e ≡ Duty y g)). three.alone d e x y g m.1 n.1)
+        (was_duty tasks c Back e y g j))
+        (was_duty tasks c Back d x g i);
+  }
 
 -- ---- the words
 

@@ -118,6 +118,15 @@ module _ {W : Type 0} (p : Plan W) (s : State) (rel : ℕ → ℕ) (tasks : ℕ 
       })
       (λ _ _ _ _. refl)
 
+  -- nothing is claimed before nor after
+  pub three_beside : (a : Task) → claimed (tasks 0) ≡ None → claimed a ≡ None → unsettled (tasks 0) ≡ None → unsettled a ≡ None → IsNoDuty (tasks 0) → IsNoDuty a → IsTask p s a rel words 0 a → Three p s rel a (put 0 a tasks) words
+  three_beside a was is old none no_duty still mine = three_begun a words no_duty still (none ∙ sym old) mine
+      (λ b low. let m = three.masks b low in record {
+        free = λ one. let f = m.free one in record { below = f.below; none = f.none; unclaimed = λ z. none-some b (sym is ∙ z) };
+        marked = λ f. m.marked record { below = f.below; none = f.none; unclaimed = λ z. none-some b (sym was ∙ z) };
+      })
+      (λ _ _ _ _. refl)
+
 module _ {W : Type 0} (U X L : Type 0) (p : Plan W) (s : State) (rel : ℕ → ℕ) (tasks : ℕ → Task) (words : List ℕ) (three : Three p s rel (tasks 0) tasks words) where
   -- ---- an opening in the slot that was cleared
   pub three_opened : (c : ℕ) (u : U) (g slot n : ℕ) (x : X) → tasks 0 ≡ Filled slot n → rel g ≡ 0 → ((b h : ℕ) → s.slots b ≡ Some h → h ≢ g)

@@ -15,14 +15,15 @@ use Rattle.searcher_table.specs.declared.board.Plan.{Plan}
 use Rattle.searcher_table.specs.declared.board.Own.{Own}
 use Rattle.searcher_table.specs.declared.board.Known.{Known}
 use Rattle.searcher_table.specs.declared.board.Task.{Task}
+use Rattle.searcher_table.specs.declared.board.Task.TheVariants.{Back}
 use Rattle.searcher_table.specs.declared.board.Fresh.{Fresh}
 use Rattle.searcher_table.specs.Words.{call_word, limits}
-use Rattle.searcher_table.specs.Tasks.{IsWarming, Three}
-use Rattle.searcher_table.specs.Doors.{told_in, Four}
+use Rattle.searcher_table.specs.Tasks.{emptied, IsWarming, Three}
+use Rattle.searcher_table.specs.Doors.{told_in, held_in, Four}
 use Rattle.searcher_table.specs.Views.{GoesOn}
-use Rattle.searcher_table.specs.Rule.{World, IsPass, IsHand, IsFresh, IsRegistrar, IsBack, Fits, Two, released, Kept}
+use Rattle.searcher_table.specs.Rule.{World, IsPass, IsHand, IsFresh, IsRegistrar, IsDone, IsBack, Fits, Two, released, Kept}
 use Rattle.searcher_table.specs.Steps.{looked}
-use Rattle.searcher_table.proofs.Frame.{put, put_here, put_else, moved, Acts, starts_later, own_joined, all_joined, all_map, one_after}
+use Rattle.searcher_table.proofs.Frame.{put, put_here, put_else, moved, Acts, starts_later, own_joined, all_joined, all_map, done_still, nothing_out, not_some, one_after}
 use Rattle.searcher_table.proofs.Handing.{another}
 
 module _ {U X L : Type 0} where
@@ -57,20 +58,31 @@ Holds p fresh_at log id f = (fresh_at f.generation ≡ id) × IsWarming (state_o
 
 module _ {D W U X L : Type 0} (setting : D → W) (docs : D → X) (deeds : D → List L) (p : Plan W) where
   pub turns : (s : State (Cell D U) (Known W U X L)) (kept : Kept setting docs deeds p s) (id i x : ℕ) (me : Me (Cell D U) (Known W U X L)) (log es : List (Entry U X L)) (task : Task) (fresh : Option Fresh) (fresh_at : ℕ → ℕ) (act : Act (Cell D U))
-      → get_elem? s.views id ≡ some me.0 → Acts me.0 → i < 640 → log ≡ kept.world.log ++ es → AllByRecursion (λ e. caller_of e ≡ None) es
+      → get_elem? s.views id ≡ some me.0 → Acts me.0 → (1 ≤ me.0.caller → me.0.task ≢ Back) → ((n c : ℕ) → emptied task ≡ Some n → 1 ≤ c → c ≤ p.callers → kept.world.tasks c ≡ Back) → i < 640 → log ≡ kept.world.log ++ es → AllByRecursion (λ e. caller_of e ≡ None) es
       → AllByRecursion (λ e. has_place e ≡ false) es ⊎ (me.0.registrar ≡ true) → Legal (limits p) log → Two p log (set s.words i x)
       → Three p (state_of (limits p) log) (released log) (put me.0.caller task kept.world.tasks 0) (put me.0.caller task kept.world.tasks) (set s.words i x)
-      → Four setting docs deeds p (state_of (limits p) log) (told_in log) (put me.0.caller task kept.world.tasks 0) kept.world.filling (homes_after s.homes me.1 act)
+      → Four setting docs deeds p (state_of (limits p) log) (told_in log) (held_in log) (put me.0.caller task kept.world.tasks 0) kept.world.filling (homes_after s.homes me.1 act)
       → ((j : ℕ) (f : Fresh) → j ≢ id → IsFresh kept.world j (limits p) f → Holds p fresh_at log j f) → ((f : Fresh) → fresh ≡ Some f → Holds p fresh_at log id f)
       → Kept setting docs deeds p (stepped s i x id me.1 (record (looked me.0 log kept.world.pending) { hand = None; task = task; fresh = fresh }) act)
-  turns s kept id i x me log es task fresh fresh_at act at acts below grown named quiet legal two three four others own =
+  turns s kept id i x me log es task fresh fresh_at act at acts out over below grown named quiet legal two three four others own =
       let w = kept.world in
       let k = me.0 in
       let all = kept.one.fits id k at in
       let tasks : ℕ → Task = put k.caller task w.tasks in
       let v : World U X L = moved w log w.pending w.hand_at tasks fresh_at in
       let same : (c : ℕ) → mine c log ≡ mine c w.log = λ c. ap (mine c) grown ∙ none_more c w.log es named in
-      let back : (j : ℕ) (o : Own U X L) → IsBack w j o → IsBack v j o = λ j o g. record { here = g.here; dealt = g.dealt; mine = same o.caller ∙ g.mine; none = g.none } in
+      let none : 1 ≤ k.caller → emptied (w.tasks 0) ≡ None = λ own. nothing_out p w s.words s.views kept.one k.caller own (all.pass own).dealt (λ z. out own ((all.pass own).task ∙ z)) in
+      let apart : (o : Own U X L) → IsDone w.tasks o → o.caller ≢ k.caller = λ o d eq. ⊎_elim
+      (λ low. out low ((all.pass low).task ∙ ap w.tasks (sym eq) ∙ d.task))
+      (λ r. let n = (all.registrar r).nobody in let a = d.low in absurd (omega arith))
+      acts in
+      let back : (j : ℕ) (o : Own U X L) → IsBack w j o → IsBack v j o = λ j o g. record {
+        here = g.here;
+        dealt = g.dealt;
+        mine = same o.caller ∙ g.mine;
+        none = g.none;
+        done = done_still w.tasks tasks o (put_else k.caller task w.tasks o.caller (apart o g.done)) g.done;
+      } in
       record {
         words = length-set s.words i x ∙ kept.words;
         world = v;
@@ -102,6 +114,10 @@ module _ {D W U X L : Type 0} (setting : D → W) (docs : D → X) (deeds : D �
                     nobody = g.nobody;
                     task = g.task ∙ sym (put_else k.caller task w.tasks 0 n.0);
                     filling = g.filling;
+                    final = λ m is. ⊎_elim
+                        (λ own. not_some (emptied (w.tasks 0)) m (none own) (ap emptied (sym g.task) ∙ is))
+                        (λ r. absurd (n.1 r))
+                        acts;
                   };
               backs = λ j o away g. back j o g;
             }
@@ -111,6 +127,11 @@ module _ {D W U X L : Type 0} (setting : D → W) (docs : D → X) (deeds : D �
               same c ∙ u.1,
               put_else k.caller task w.tasks c (λ z. let b = own_below p w id k all acts kept.one.first in absurd (omega arith)) ∙ u.2,
             ))
+            (λ n c is low few. ⊎_elim
+            (λ own. not_some (emptied (w.tasks 0)) n (none own) (ap emptied (sym (put_else k.caller task w.tasks 0 (λ z. absurd (omega arith)))) ∙ is))
+            (λ r. let z = (all.registrar r).nobody in
+            put_else k.caller task w.tasks c (λ e. absurd (omega arith)) ∙ over n c (ap emptied (sym (ap (put k.caller task w.tasks) (sym z) ∙ put_here k.caller task w.tasks)) ∙ is) low few)
+            acts)
             record {
               hands = λ h z. absurd (none-some h z);
               freshes = λ f z. let h = own f z in record { here = h.0; warming = h.1 };

@@ -43,10 +43,10 @@ leaves {W} {U} {X} {L} l w id c here hand =
       hands = λ j h other (g : IsHand w j h).
           record { here = g.here; pending = put_else c None w.pending h.caller (other_hand w id j c h.caller hand g.here other) ∙ g.pending };
       freshes = λ j h other g. record { here = g.here; warming = g.warming };
-      registrars = λ j u other g. record { here = g.here; seen = g.seen; next = g.next; nobody = g.nobody; task = g.task; filling = g.filling };
+      registrars = λ j u other g. record { here = g.here; seen = g.seen; next = g.next; nobody = g.nobody; task = g.task; filling = g.filling; final = g.final };
       backs = λ j o other (g : IsBack w j o).
           let n : o.caller ≢ c = another w id j c o.caller here g.here other in
-          record { here = g.here; dealt = g.dealt; mine = g.mine; none = put_else c None w.pending o.caller n ∙ g.none };
+          record { here = g.here; dealt = g.dealt; mine = g.mine; none = put_else c None w.pending o.caller n ∙ g.none; done = g.done };
     }
 
 module _ {D W U X L : Type 0} (setting : D → W) (docs : D → X) (deeds : D → List L) (p : Plan W) where
@@ -75,6 +75,7 @@ module _ {D W U X L : Type 0} (setting : D → W) (docs : D → X) (deeds : D �
           one = one_after p w w.log now w.hand_at w.tasks w.fresh_at id k None k.task k.fresh s.words (set s.words i 0) s.views kept.one at (leaves (limits p) w id c f.here here)
               (λ d l g. subst (λ (n : ℕ). slice_index (set s.words n 0) (call_word d) ≡ code (now d)) (sym at_word) (calls_after s.words w.pending c 0 None kept.words few refl kept.one.calls d l g))
               (λ d past. let u = kept.one.undealt d past in (put_else c None w.pending d (λ e. let deal = f.dealt in absurd (omega arith)) ∙ u.0, u.1, u.2))
+              kept.one.over
               record {
                 hands = (λ g e. absurd (none-some g e));
                 freshes = λ h e. (let g = all.fresh h e in record { here = g.here; warming = g.warming });

@@ -2,8 +2,8 @@
 use Rattle.std.specs.Prelude.{ℕ, ◌≤◌, List, fold, Bool, true, false, ◌==◌, Option, None, IfSome}
 use Rattle.registry_machine.specs.declared.entry.Entry.{Entry}
 use Rattle.registry_machine.specs.declared.entry.Entry.TheVariants.{Acquire, NotYet, Release}
-use Rattle.registry_machine.specs.Entries.{caller_of}
-use Rattle.registry_machine.specs.Machine.{pins_after}
+use Rattle.registry_machine.specs.Entries.{caller_of, opens as opened_by, frees as freed_by}
+use Rattle.registry_machine.specs.Machine.{is_some_of, pins_after}
 
 module _ {U X L : Type 0} where
   -- an acquire, or one for which nothing was current
@@ -25,6 +25,13 @@ module _ {U X L : Type 0} where
   abbrev pub releases : ℕ → Entry U X L → Bool
   releases g (Release c h l) = h == g
   releases g _ = false
+
+  -- an opening of the generation, and its freeing
+  abbrev pub opens : ℕ → Entry U X L → Bool
+  opens g e = is_some_of g (opened_by e)
+
+  abbrev pub frees : ℕ → Entry U X L → Bool
+  frees g e = is_some_of g (freed_by e)
 
   -- what the caller pins after an entry, and after its own ones
   abbrev pub pin_after : ℕ → Option ℕ → Entry U X L → Option ℕ

@@ -15,3 +15,4 @@ pub mod Registrars
 pub mod Openings
 pub mod Making
 pub mod Publishing
+pub mod Closing

@@ -1,11 +1,11 @@
 -- The rule of a table: what holds between any two steps.
-use Rattle.std.specs.Prelude.{◌≡◌, ◌⊎◌, ℕ, ◌+◌, ◌<◌, ◌≤◌, true, List, [], length, count_by, slice_index, Option, Some, None}
+use Rattle.std.specs.Prelude.{◌≡◌, ◌⊎◌, ℕ, ◌+◌, ◌<◌, ◌≤◌, true, List, [], length, map, count_by, slice_index, Option, Some, None}
 use Rattle.std.specs.List.{AllByRecursion}
 use mathlib.Core.Option.{some}
 use lib.ListN.{get_elem?}
 use Rattle.atomic_table.specs.Table.{State}
 use Rattle.registry_machine.specs.declared.entry.Entry.{Entry}
-use Rattle.registry_machine.specs.Machine.{Limits}
+use Rattle.registry_machine.specs.Machine.{Limits, is_in}
 use Rattle.registry_machine.specs.Legal.{Legal, state_of}
 use Rattle.registry_machine.specs.Callers.{mine}
 use Rattle.searcher_table.specs.declared.board.Asked.{Asked}
@@ -15,12 +15,12 @@ use Rattle.searcher_table.specs.declared.board.Hand.{Hand}
 use Rattle.searcher_table.specs.declared.board.Own.{Own}
 use Rattle.searcher_table.specs.declared.board.Known.{Known}
 use Rattle.searcher_table.specs.declared.board.Task.{Task}
-use Rattle.searcher_table.specs.declared.board.Task.TheVariants.{Idle}
+use Rattle.searcher_table.specs.declared.board.Task.TheVariants.{Idle, Back}
 use Rattle.searcher_table.specs.declared.board.Fresh.{Fresh}
-use Rattle.searcher_table.specs.Tasks.{IsWarming, Three}
-use Rattle.searcher_table.specs.Doors.{told_in, Four}
+use Rattle.searcher_table.specs.Tasks.{emptied, IsWarming, Three}
+use Rattle.searcher_table.specs.Doors.{told_in, held_in, Four}
 use Rattle.searcher_table.specs.Words.{word_count, current_word, packed, call_word, code, HasSizes, limits}
-use Rattle.searcher_table.specs.Counts.{is_acquire, is_not_yet, releases, NamesCaller}
+use Rattle.searcher_table.specs.Counts.{is_acquire, is_not_yet, releases, pinned, NamesCaller}
 use Rattle.searcher_table.specs.Views.{StartsWith, HasNoPlaceSince, GoesOn}
 
 -- what is no function of the history: what each caller has announced, whose seat its pass is and whose its announced call, which seat is the registrar's, the first caller with no pass yet, what each caller has begun with a slot, and the registrar as caller 0, whose seat can publish a warming generation, and what the doors show that the registrar lays
@@ -54,6 +54,12 @@ opened p = record {
   filling = None;
 }
 
+-- a caller whose pass was taken back has begun nothing, and pins nothing
+pub record IsDone {U X L : Type 0} (tasks : ℕ → Task) (o : Own U X L) : Type 0 where
+  pub low : 1 ≤ o.caller
+  pub task : tasks o.caller ≡ Back
+  pub unpinned : pinned o.caller o.mine ≡ None
+
 module _ {U X L : Type 0} (w : World U X L) (id : ℕ) where
   -- the seat has the right to a pending call
   pub record IsHand (h : Hand U) : Type 0 where
@@ -71,6 +77,7 @@ module _ {U X L : Type 0} (w : World U X L) (id : ℕ) where
     pub dealt : o.caller < w.next
     pub mine : mine o.caller w.log ≡ o.mine
     pub none : w.pending o.caller ≡ None
+    pub done : IsDone w.tasks o
 
 module _ {W U X L : Type 0} (w : World U X L) (id : ℕ) where
   -- the seat of a caller's pass knows its entries and what it has announced, but for one that was executed meanwhile
@@ -80,7 +87,7 @@ module _ {W U X L : Type 0} (w : World U X L) (id : ℕ) where
     pub calls : GoesOn k.caller k.mine k.announced (mine k.caller w.log) (w.pending k.caller)
     pub task : k.task ≡ w.tasks k.caller
 
-  -- the registrar has seen each entry with a place, and knows who has no pass yet
+  -- the registrar has seen each entry with a place, and knows who has no pass yet; once cells are emptied, it has seen all
   pub record IsRegistrar (k : Known W U X L) : Type 0 where
     pub here : w.registrar_at ≡ id
     pub seen : HasNoPlaceSince w.log k.seen
@@ -88,6 +95,14 @@ module _ {W U X L : Type 0} (w : World U X L) (id : ℕ) where
     pub nobody : k.caller ≡ 0
     pub task : k.task ≡ w.tasks 0
     pub filling : k.filling ≡ w.filling
+    pub final : (n : ℕ) → emptied k.task ≡ Some n → k.seen ≡ w.log
+
+-- the pass of each caller was taken back
+abbrev pub callers_of : {U X L : Type 0} → List (Own U X L) → List ℕ
+callers_of back = map (λ o. o.caller) back
+
+abbrev pub AreBack : {W U X L : Type 0} → Plan W → List (Own U X L) → Type 0
+AreBack p back = (c : ℕ) → 1 ≤ c → c ≤ p.callers → is_in c (callers_of back) ≡ true
 
 -- what a seat knows is true
 pub record Fits {W U X L : Type 0} (p : Plan W) (w : World U X L) (id : ℕ) (k : Known W U X L) : Type 0 where
@@ -100,13 +115,14 @@ pub record Fits {W U X L : Type 0} (p : Plan W) (w : World U X L) (id : ℕ) (k 
   pub registrar : k.registrar ≡ true → IsRegistrar w id k
   pub back : AllByRecursion (IsBack w id) k.back
 
--- Part one: the callers' words, what each seat has seen and what is its own.
+-- Part one: the callers' words, what each seat has seen and what is its own. Once cells are emptied, all passes were taken back.
 pub record One {W U X L : Type 0} (p : Plan W) (w : World U X L) (words : List ℕ) (views : List (Known W U X L)) : Type 0 where
   pub calls : (c : ℕ) → 1 ≤ c → c ≤ 64 → slice_index words (call_word c) ≡ code (w.pending c)
   pub fits : (id : ℕ) (k : Known W U X L) → get_elem? views id ≡ some k → Fits p w id k
   pub undealt : (c : ℕ) → w.next ≤ c → (w.pending c ≡ None) × (mine c w.log ≡ []) × (w.tasks c ≡ Idle)
   pub first : 1 ≤ w.next
   pub few : w.next ≤ p.callers + 1
+  pub over : (n c : ℕ) → emptied (w.tasks 0) ≡ Some n → 1 ≤ c → c ≤ p.callers → w.tasks c ≡ Back
 
 -- Nothing is current, and the current word counts the acquires that came too early.
 pub record CountsTooEarly {U X L : Type 0} (l : Limits) (log : List (Entry U X L)) (word : ℕ) : Type 0 where
@@ -143,4 +159,4 @@ pub record Kept {D W U X L : Type 0} (setting : D → W) (docs : D → X) (deeds
   pub one : One p world s.words s.views
   pub two : Two p world.log s.words
   pub three : Three p (state_of (limits p) world.log) (released world.log) (world.tasks 0) world.tasks s.words
-  pub four : Four setting docs deeds p (state_of (limits p) world.log) (told_in world.log) (world.tasks 0) world.filling s.homes
+  pub four : Four setting docs deeds p (state_of (limits p) world.log) (told_in world.log) (held_in world.log) (world.tasks 0) world.filling s.homes

@@ -1,6 +1,7 @@
 -- What each kind of step tells the seat that makes it, and how views are split and joined.
 use Rattle.std.specs.Prelude.{◌≡◌, ◌≢◌, ◌⊎◌, ℕ, ◌+◌, ◌<◌, ◌≤◌, ◌/◌, ◌%◌, ◌==◌, if◌then◌else◌, true, false, List, [], ◌∷◌, ◌++◌, length, count_by, Option, Some, None}
 use Rattle.std.specs.Int.{trailing_zeros}
+use Rattle.std.specs.List.{AllByRecursion}
 use mir.Syntax.{w64}
 use mathlib.Core.Option.{some}
 use Rattle.atomic_table.specs.Table.{Me, Step, rest}
@@ -18,10 +19,11 @@ use Rattle.searcher_table.specs.declared.board.Plan.{Plan}
 use Rattle.searcher_table.specs.declared.board.Hand.{Hand}
 use Rattle.searcher_table.specs.declared.board.Known.{Known}
 use Rattle.searcher_table.specs.declared.board.Task.{Task}
-use Rattle.searcher_table.specs.declared.board.Task.TheVariants.{Idle, Found, Claimed, Filled, Filling, Unsettled, Duty}
+use Rattle.searcher_table.specs.declared.board.Task.TheVariants.{Idle, Found, Claimed, Filled, Filling, Unsettled, Duty, Emptied}
 use Rattle.searcher_table.specs.declared.board.Fresh.{Fresh}
 use Rattle.searcher_table.specs.Words.{slot_word, limits}
-use Rattle.searcher_table.specs.Doors.{cell_of, told_in, IsDoorLeft}
+use Rattle.searcher_table.specs.Tasks.{IsOver}
+use Rattle.searcher_table.specs.Doors.{cell_of, told_in, held_in, IsDoorLeft, IsLeft}
 use Rattle.searcher_table.specs.Counts.{releases, pinned}
 use Rattle.searcher_table.specs.Views.{StartsWith, HasNoPlaceSince, GoesOn}
 
@@ -295,3 +297,25 @@ module _ {W U X L : Type 0} where
 
     abbrev pub Settled : Step (Cell D U) → Me (Cell D U) (Known W U X L) → ℕ → Me (Cell D U) (Known W U X L) → Type 0
     Settled step before found after = (slot g total : ℕ) → before.0.task ≡ Unsettled slot g total → HasTold slot g total found before after
+
+    -- ---- the end of a table
+
+    -- the table is given up: no slot is kept but for what is current or warming, and the passes that were taken back have all their callers' entries
+    pub record HasGivenUp (p : Plan W) (before new : Me (Cell D U) (Known W U X L)) : Type 0 where
+      pub turned : HasTurned (Emptied 0) before.0.fresh before new
+      pub over : IsOver (state_of (limits p) turned.log)
+      pub own : AllByRecursion (λ o. mine o.caller turned.log ≡ o.mine) before.0.back
+
+    abbrev pub GaveUp : Step (Cell D U) → Me (Cell D U) (Known W U X L) → ℕ → Me (Cell D U) (Known W U X L) → Type 0
+    GaveUp step before found after = (p : Plan W) → before.0.plan ≡ Some p → HasGivenUp p before after
+
+    -- the seat has what lay in the cell for good: a door as its caller left it, or nothing where the slot was opened for none. The history has not grown
+    pub record HasTakenOut (setting : D → W) (docs : D → X) (deeds : D → List L) (p : Plan W) (k : ℕ) (before new : Me (Cell D U) (Known W U X L)) : Type 0 where
+      pub turned : HasTurned (Emptied (k + 1)) before.0.fresh before (new.0, before.1)
+      pub same : turned.log ≡ before.0.seen
+      pub old : Cell D U
+      pub out : HasOut k old before new
+      pub left : IsLeft setting docs deeds p (held_in before.0.seen (k / 64)) (λ g. told_in before.0.seen g (k % 64 + 1)) old
+
+    abbrev pub TookOut : (D → W) → (D → X) → (D → List L) → Step (Cell D U) → Me (Cell D U) (Known W U X L) → ℕ → Me (Cell D U) (Known W U X L) → Type 0
+    TookOut setting docs deeds step before stored after = (p : Plan W) → before.0.plan ≡ Some p → HasTakenOut setting docs deeds p stored before after

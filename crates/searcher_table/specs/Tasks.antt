@@ -1,9 +1,9 @@
 -- Slots: which are free, what has been begun with them, and what their words count.
-use Rattle.std.specs.Prelude.{◌≡◌, ◌≢◌, ℕ, ◌+◌, ◌*◌, ◌<◌, ◌≤◌, Bool, true, false, not, ◌||◌, if◌then◌else◌, List, slice_index, Option, Some, None}
+use Rattle.std.specs.Prelude.{◌≡◌, ◌≢◌, ◌⊎◌, ℕ, ◌+◌, ◌*◌, ◌<◌, ◌≤◌, Bool, true, false, not, ◌||◌, if◌then◌else◌, List, slice_index, Option, Some, None}
 use Rattle.registry_machine.specs.Machine.{Limits, State, is_in, is_some_of}
 use Rattle.searcher_table.specs.declared.board.Plan.{Plan}
 use Rattle.searcher_table.specs.declared.board.Task.{Task}
-use Rattle.searcher_table.specs.declared.board.Task.TheVariants.{Idle, Found, Claimed, Filled, Filling, Unsettled, Duty}
+use Rattle.searcher_table.specs.declared.board.Task.TheVariants.{Idle, Found, Claimed, Filled, Filling, Unsettled, Duty, Back, Emptied}
 use Rattle.searcher_table.specs.declared.board.Fresh.{Fresh}
 use Rattle.searcher_table.specs.Words.{slot_word, bit_of, limits}
 
@@ -17,6 +17,11 @@ claimed _ = None
 abbrev pub unsettled : Task → Option ℕ
 unsettled (Unsettled slot g total) = Some g
 unsettled _ = None
+
+-- how many of the first cells are taken out for good
+abbrev pub emptied : Task → Option ℕ
+emptied (Emptied n) = Some n
+emptied _ = None
 
 -- by the registrar's task the acquires of the generation are told to its slot's word: it is neither warming nor current any more, nor is this still to come
 abbrev pub is_settled : State → Task → ℕ → Bool
@@ -67,6 +72,8 @@ IsTask p s own released words c (Filled slot n) = (c ≡ 0) × IsClear (limits p
 IsTask p s own released words c (Filling slot n) = (c ≡ 0) × IsClear (limits p) s words slot
 IsTask p s own released words c (Unsettled slot g total) = (c ≡ 0) × IsUnsettled s slot g total
 IsTask p s own released words c (Duty slot g) = IsDuty p s own released c slot g
+IsTask p s own released words c Back = Unit {0}
+IsTask p s own released words c (Emptied n) = Unit {0}
 
 -- Part three: masks, the words of slots, and what is begun, by the registrar's task. A settled generation that was released as often as acquired is the duty of one.
 pub record Three {W : Type 0} (p : Plan W) (s : State) (released : ℕ → ℕ) (own : Task) (tasks : ℕ → Task) (words : List ℕ) : Type 0 where
@@ -75,6 +82,11 @@ pub record Three {W : Type 0} (p : Plan W) (s : State) (released : ℕ → ℕ) 
   pub begun : (c : ℕ) → IsTask p s own released words c (tasks c)
   pub drained : (slot g : ℕ) → s.slots slot ≡ Some g → is_settled s own g ≡ true → released g ≡ s.acquired g → (c : ℕ) × (tasks c ≡ Duty slot g)
   pub alone : (c d a b g : ℕ) → tasks c ≡ Duty a g → tasks d ≡ Duty b g → c ≡ d
+
+-- a slot is open only for what is current or warming, and nobody pins anything
+pub record IsOver (s : State) : Type 0 where
+  pub slots : (slot g : ℕ) → s.slots slot ≡ Some g → (s.current ≡ Some g) ⊎ (is_in g s.warming ≡ true)
+  pub pins : (c : ℕ) → s.pins c ≡ None
 
 -- the generation is warming, and has this slot
 pub record IsWarming (s : State) (f : Fresh) : Type 0 where

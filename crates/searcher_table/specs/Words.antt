@@ -52,6 +52,11 @@ IsSaid {D} {U} cell = (asked : Asked U) × (cell ≡ Said asked)
 abbrev pub IsFull : {D U : Type 0} → Cell D U → Type 0
 IsFull {D} {U} cell = (door : D) × (cell ≡ Full door)
 
+-- that door
+abbrev pub door_in : {D U : Type 0} → Cell D U → Option D
+door_in (Full door) = Some door
+door_in _ = None
+
 -- the last generation that can be opened
 abbrev pub last_generation : ℕ
 last_generation = 33554431

@@ -86,7 +86,7 @@ pub enum Cell<D, U> {
 impl<D: Drop, U: Drop> Cell<D, U> {
     ghost use Rattle.std.specs.Prelude.{◌≡◌};
     ghost use Rattle.searcher_table.specs.declared.board.Cell.TheVariants.{Full, Said};
-    ghost use Rattle.searcher_table.specs.Words.{IsFull, IsSaid};
+    ghost use Rattle.searcher_table.specs.Words.{IsFull, IsSaid, door_in};
 
     // What is said, where something is.
     pub(crate) fn asked(self) -> Asked<U>
@@ -109,6 +109,17 @@ impl<D: Drop, U: Drop> Cell<D, U> {
             Cell::Full(door) => door,
             Cell::Said(_asked) => unreachable!(),
             Cell::Empty => unreachable!(),
+        }
+    }
+
+    // The door, if there is one.
+    pub(crate) fn found(self) -> Option<D>
+        ensures { result ≡ door_in self }
+    {
+        match self {
+            Cell::Full(door) => Some(door),
+            Cell::Said(_asked) => None,
+            Cell::Empty => None,
         }
     }
 }
@@ -168,6 +179,12 @@ pub enum Task {
     Duty {
         slot: u32,
         generation: u32,
+    },
+    /// Of a caller, that its pass was taken back.
+    Back,
+    /// The table is given up, and the doors of the first cells, so many, are taken out for good.
+    Emptied {
+        count: u32,
     },
 }
 

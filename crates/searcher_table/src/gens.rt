@@ -26,8 +26,8 @@ impl Gens {
         self.list.as_slice()
     }
 
-    // The same again.
-    pub(crate) fn again(&self) -> Gens
+    /// The same again. It takes no memory.
+    pub fn again(&self) -> Gens
         ensures { listed result ≡ listed self.now }
     {
         let mut list = ArrayVec::new();

@@ -7,6 +7,7 @@
 
 mod board;
 mod claim;
+mod close;
 mod fill;
 mod gens;
 mod making;
@@ -20,6 +21,7 @@ mod shown;
 mod tokens;
 
 pub use board::{Asked, Call};
+pub use close::Ended;
 pub use gens::Gens;
 pub use making::make;
 pub use pass::Pass;

@@ -79,6 +79,8 @@ fn deal<D: Shown, U: Drop>(
 }
 
 ghost use Rattle.std.specs.Prelude.{◌*◌, ◌-◌, ◌^◌};
+ghost use Rattle.std.specs.List.{AllByRecursion};
+ghost use Rattle.searcher_table.specs.declared.board.Cell.TheVariants.{Empty};
 
 // So many bits, from the lowest on.
 fn ones(count: u32) -> u64
@@ -93,7 +95,8 @@ fn ones(count: u32) -> u64
 
 // Cells without doors.
 fn empty_cells<D: Shown, U: Drop>(alloc: Global, count: usize) -> Result<Vec<Cell<D, U>>, NoMemory>
-    ensures { IfOk result (λ cells. length cells.items ≡ count) }
+    ensures count { IfOk result (λ cells. length cells.items ≡ count) }
+    ensures empty { IfOk result (λ cells. AllByRecursion (λ x. x ≡ Empty) cells.items) }
 {
     let Ok(mut cells) = Vec::with_capacity(alloc, count) else {
         return Err(NoMemory);
@@ -102,6 +105,25 @@ fn empty_cells<D: Shown, U: Drop>(alloc: Global, count: usize) -> Result<Vec<Cel
         cells.push_reserved(Cell::Empty);
     }
     Ok(cells)
+}
+
+ghost use Rattle.searcher_table.specs.Spares.{AreRooms};
+
+// So many empty rows, each with room for a door of each caller.
+fn rooms<D: Shown>(alloc: Global, count: usize, callers: u32) -> Result<Vec<Vec<D>>, NoMemory>
+    ensures count { IfOk result (λ rows. length rows.items ≡ count) }
+    ensures rooms { IfOk result (λ rows. AreRooms callers rows.items) }
+{
+    let Ok(mut rows) = Vec::with_capacity(alloc, count) else {
+        return Err(NoMemory);
+    };
+    for _ in 0..count {
+        let Ok(row) = Vec::with_capacity(alloc, callers as usize) else {
+            return Err(NoMemory);
+        };
+        rows.push_reserved(row);
+    }
+    Ok(rows)
 }
 
 ghost use Rattle.std.specs.Arc.{arc_value};
@@ -157,13 +179,20 @@ impl<D: Shown, U: Drop> Registrar<D, U> {
             return Err(NoMemory);
         };
         let spare = links(alloc, &table, plan.max_warming)?;
+        let rows = rooms(alloc, slots as usize, plan.callers)?;
+        let Ok(closed) = Vec::with_capacity(alloc, slots as usize) else {
+            return Err(NoMemory);
+        };
         Ok(Registrar {
             places: 0,
             max_warming: plan.max_warming,
+            callers: plan.callers,
             last: plan.first_generation - 1,
             current: 0,
             warming: Gens::none(),
             spare,
+            rows,
+            closed,
             place,
             table,
         })

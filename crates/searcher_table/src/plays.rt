@@ -1,6 +1,6 @@
 // The kinds of step, which are for the proofs alone.
 ghost use Rattle.searcher_table.specs.Steps.{Looked, Peeked, Announced, Withdrawn, Executed, kept_back, handed_out, keeps_others, dealt_out, joined, taken_back, spent};
-ghost use Rattle.searcher_table.specs.Steps.{Opened, Acquired, Released, Freed, Scanned, ScannedOn, Took, Wiped, Reached, Laid as was_laid, Published, Superseding, Settled, still, told_of};
+ghost use Rattle.searcher_table.specs.Steps.{Opened, Acquired, Released, Freed, Scanned, ScannedOn, Took, Wiped, Reached, Laid as was_laid, Published, Superseding, Settled, GaveUp, TookOut, still, told_of};
 
 use crate::board::{Cell, Known};
 use crate::shown::Shown;
@@ -150,6 +150,20 @@ pub(crate) struct Settle;
 
 impl<D: Shown, U> Play<Cell<D, U>, Known<D::Setting, U, D::Docs, D::Deed>> for Settle {
     ghost then = { Settled };
+}
+
+// The history so far is seen, and the table given up, whose passes were all taken back.
+pub(crate) struct GiveUp;
+
+impl<D: Shown, U> Play<Cell<D, U>, Known<D::Setting, U, D::Docs, D::Deed>> for GiveUp {
+    ghost then = { GaveUp };
+}
+
+// A cell is taken out for good.
+pub(crate) struct TakeOut;
+
+impl<D: Shown, U> Play<Cell<D, U>, Known<D::Setting, U, D::Docs, D::Deed>> for TakeOut {
+    ghost then = { TookOut D.setting D.docs D.list };
 }
 
 // What was seen goes along to a seat of its own.

@@ -1,7 +1,9 @@
 ghost use Rattle.std.specs.Prelude.{◌≡◌, ◌+◌, ◌≤◌, true, [], Some, None, count_by, length, vec_capacity};
 ghost use Rattle.std.specs.Arc.{arc_value};
+ghost use Rattle.std.proofs.Props.{props};
 ghost use Rattle.registry_machine.specs.Entries.{has_place};
-ghost use Rattle.searcher_table.specs.Spares.{AreAt};
+ghost use Rattle.searcher_table.specs.Spares.{AreAt, AreRooms};
+ghost use Rattle.searcher_table.specs.Words.{limits};
 ghost use Rattle.searcher_table.specs.Warming.{listed, last_in, current_in, warming_in};
 ghost use Rattle.searcher_table.specs.declared.board.Task.TheVariants.{Idle};
 
@@ -23,6 +25,8 @@ pub struct Registrar<D: Shown, U: Drop> {
     pub(crate) places: u64,
     // The greatest number of warming generations.
     pub(crate) max_warming: u32,
+    // How many callers there are.
+    pub(crate) callers: u32,
     // The generation that was opened last.
     pub(crate) last: u32,
     // The one that is current, or 0.
@@ -33,6 +37,9 @@ pub struct Registrar<D: Shown, U: Drop> {
     pub(crate) table: SharedTable<D, U, D::Setting, D::Docs, D::Deed>,
     // References to the table for the openings that may be warming at once.
     pub(crate) spare: Vec<Link<D, U>>,
+    // Of the table's end, a row for the doors of each slot, and the list of these rows.
+    pub(crate) rows: Vec<Vec<D>>,
+    pub(crate) closed: Vec<Vec<D>>,
     ghost at_table: { place.table_id ≡ (arc_value table).shared.table_id },
     ghost sized: { place.table_id.words ≡ 1168 },
     ghost told: { place.me.0.plan ≡ Some (arc_value table).shared.key },
@@ -40,6 +47,7 @@ pub struct Registrar<D: Shown, U: Drop> {
     ghost counted: { places ≡ count_by has_place place.me.0.seen },
     ghost most: { max_warming ≡ (arc_value table).shared.key.max_warming },
     ghost few: { max_warming ≤ 4 },
+    ghost of_callers: { callers ≡ (arc_value table).shared.key.callers },
     ghost some: { 1 ≤ (arc_value table).shared.key.callers },
     ghost few_callers: { (arc_value table).shared.key.callers ≤ 64 },
     ghost last_is: { last ≡ last_in (arc_value table).shared.key place.me.0.seen },
@@ -49,6 +57,10 @@ pub struct Registrar<D: Shown, U: Drop> {
     ghost held: { vec_capacity spare ≡ max_warming },
     ghost enough: { length spare.items + length (listed warming) ≡ max_warming },
     ghost within: { last ≤ 33554431 },
+    ghost roomy: { AreRooms callers rows.items } by { Prim.hlevel props },
+    ghost slots: { length rows.items ≡ (limits (arc_value table).shared.key).slots },
+    ghost unclosed: { closed.items ≡ [] },
+    ghost room: { (limits (arc_value table).shared.key).slots ≤ vec_capacity closed },
     ghost idle: { place.me.0.task ≡ Idle },
     ghost empty_handed: { place.me.0.hand ≡ None },
     ghost bare: { place.me.1 ≡ [] },
@@ -56,7 +68,7 @@ pub struct Registrar<D: Shown, U: Drop> {
 
 impl<D: Shown, U: Drop> Registrar<D, U> {
     ghost use Rattle.std.specs.Prelude.{◌≡◌, ◌<◌, None, IfOk, IfErr, IsTrue};
-    ghost use Rattle.searcher_table.specs.Openings.{MayOpen, AreDoors, IsOpenHere, HasOpened, IsRefused};
+    ghost use Rattle.searcher_table.specs.Openings.{MayOpen, warming_of, AreDoors, IsOpenHere, HasOpened, IsRefused};
     ghost use Rattle.searcher_table.specs.Passes.{sighted_at, announced_of, table_of as table_of_pass};
     ghost use Rattle.searcher_table.specs.Registrars.{table_of, places_of, MayAnswer, answer_to, HasEntry};
     ghost use Rattle.searcher_table.specs.Registrars.{IsUnchanged, IsSightingOf, HasLooked, HasMet, current_of};
@@ -80,6 +92,13 @@ impl<D: Shown, U: Drop> Registrar<D, U> {
         ensures no { MayOpen self.now → IsTrue result }
     {
         self.warming.get().len() < self.max_warming as usize && self.last < LAST_GENERATION
+    }
+
+    /// The generations that are warming after what it has seen. It takes no memory and doesn't wait.
+    pub fn warming(&self) -> Gens
+        ensures { listed result ≡ warming_of self.now }
+    {
+        self.warming.again()
     }
 
     /// Executes an announced opening: it opens the next generation, which is then warming, with these doors for the

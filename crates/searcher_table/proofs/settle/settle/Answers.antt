@@ -2,7 +2,7 @@ use Rattle.std.proofs.Common.{◌≡◌, ◌+◌, ◌*◌, ◌/◌, ◌%◌, ◌
 use Rattle.std.specs.Prelude.{◌^◌}
 use Rattle.searcher_table.proofs.Settling.{settles}
 use Rattle.searcher_table.proofs.Freeing.{frees}
-use Rattle.searcher_table.proofs.Ended.{settled_kept, settled_freed, has_duty}
+use Rattle.searcher_table.proofs.Settled.{settled_kept, settled_freed, has_duty}
 use Rattle.searcher_table.proofs.settle.settle.Goals as goal
 
 pub fetch_add-found-requires : goal.fetch_add-found-requires

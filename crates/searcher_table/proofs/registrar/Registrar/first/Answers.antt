@@ -8,7 +8,7 @@ use Rattle.searcher_table.proofs.registrar.Registrar.first.Goals as goal
 pub new-requires : goal.new-requires
 new-requires g c =
     let r = c.requires in
-    opens_with g.D.Shown.setting g.D.Shown.docs g.D.Shown.list c.args.plan.now _ _ c.in_ok-cells.cells.items record { callers = r.callers.1; warming = r.warming; generation = (r.first, r.last); budget = r.budget } c.in_ok-cells.ensures
+    opens_with g.D.Shown.setting g.D.Shown.docs g.D.Shown.list c.args.plan.now _ _ c.in_ok-cells.cells.items record { callers = r.callers.1; warming = r.warming; generation = (r.first, r.last); budget = r.budget } c.in_ok-cells.ensures.count c.in_ok-cells.ensures.empty
     (c.ones.ensures ∙ ap (λ n. 2 ^ n - 1) c.min.ensures) (c.ones-2.ensures ∙ ap (λ n. 2 ^ n - 1) c.saturating_sub.ensures)
 
 pub invariant_of-result-clause-spares : goal.invariant_of-result-clause-spares

@@ -10,7 +10,7 @@ use Rattle.searcher_table.proofs.Current.{none_is, some_is}
 use Rattle.searcher_table.proofs.Gather.{joins}
 use Rattle.searcher_table.proofs.Ending.{publishes, left_low, left_some, few_left, least_of}
 use Rattle.searcher_table.proofs.Registering.{goes, executed, executed_log}
-use Rattle.searcher_table.proofs.Ended.{less_finish, one_back}
+use Rattle.searcher_table.proofs.Settled.{less_finish, one_back}
 use Rattle.searcher_table.proofs.registrar.Registrar.register.Goals as goal
 
 pub join_seat-requires : goal.join_seat-requires
@@ -86,6 +86,11 @@ invariant_of-self g c =
       few = registrar.few;
       some = registrar.some;
       few_callers = registrar.few_callers;
+      of_callers = registrar.of_callers;
+      roomy = registrar.roomy;
+      slots = registrar.slots;
+      unclosed = registrar.unclosed;
+      room = registrar.room;
       last_is = less.last;
       current_is = less.current;
       warming_are = c.remove.ensures ∙ less.warming;
@@ -187,6 +192,11 @@ invariant_of-self-2 g c =
       few = registrar.few;
       some = registrar.some;
       few_callers = registrar.few_callers;
+      of_callers = registrar.of_callers;
+      roomy = registrar.roomy;
+      slots = registrar.slots;
+      unclosed = registrar.unclosed;
+      room = registrar.room;
       last_is = less.last;
       current_is = less.current;
       warming_are = c.remove.ensures ∙ less.warming;

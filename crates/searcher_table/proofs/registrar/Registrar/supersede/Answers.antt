@@ -8,7 +8,7 @@ use Rattle.searcher_table.specs.Registrars.{plan_of, seen_of}
 use Rattle.searcher_table.proofs.Gather.{joins}
 use Rattle.searcher_table.proofs.Ending.{supersedes}
 use Rattle.searcher_table.proofs.Registering.{goes, executed}
-use Rattle.searcher_table.proofs.Ended.{some_number, less_superseded, one_back}
+use Rattle.searcher_table.proofs.Settled.{some_number, less_superseded, one_back}
 use Rattle.searcher_table.proofs.registrar.Registrar.supersede.Goals as goal
 
 pub join_seat-requires : goal.join_seat-requires
@@ -102,6 +102,11 @@ invariant_of-self g c =
       few = registrar.few;
       some = registrar.some;
       few_callers = registrar.few_callers;
+      of_callers = registrar.of_callers;
+      roomy = registrar.roomy;
+      slots = registrar.slots;
+      unclosed = registrar.unclosed;
+      room = registrar.room;
       last_is = less.last;
       current_is = less.current;
       warming_are = c.remove.ensures ∙ less.warming;

@@ -1,4 +1,5 @@
 use Rattle.std.proofs.Common.{◌≡◌, ◌∙◌, [], ◌∷◌, ◌++◌, refl, sym, ap, arith}
+use Rattle.searcher_table.specs.Counts.{pinned}
 use Rattle.searcher_table.proofs.TakeBack.{takes_back}
 use Rattle.searcher_table.proofs.registrar.Registrar.take_back.Goals as goal
 
@@ -15,7 +16,7 @@ join_seat-requires g c =
       c.requires.table ∙ same,
       pass.bare,
       omega arith,
-      takes_back g.D.Shown.setting g.D.Shown.docs g.D.Shown.list table.key registrar.place.id registrar.place.me.0 pass.place.id pass.place.me.0 (omega arith) c.requires.none,
+      takes_back g.D.Shown.setting g.D.Shown.docs g.D.Shown.list table.key registrar.place.id registrar.place.me.0 pass.place.id pass.place.me.0 (omega arith) c.requires.none pass.idle (ap (λ m. pinned m pass.place.me.0.mine) pass.numbered ∙ pass.unpinned),
     )
 
 pub returns : goal.returns
