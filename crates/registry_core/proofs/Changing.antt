@@ -24,7 +24,7 @@ use Rattle.registry_core.specs.declared.locked.Terms.{Terms}
 use Rattle.registry_core.specs.Keeping.{IsTableOf}
 use Rattle.registry_core.specs.Entering.{IsAccepted, IsCause}
 use Rattle.registry_core.specs.Journal.{updates_of}
-use Rattle.registry_core.specs.Callers.{number_of, most_of, HasProlonged, HasChanged, IsNotChanged}
+use Rattle.registry_core.specs.Callers.{most_of, HasProlonged, HasChanged, IsNotChanged}
 use Rattle.registry_core.proofs.Own.{prolongs_on, still, none_own, executed_alone}
 
 module _ {D V S X L : Type 0} where

@@ -1,5 +1,12 @@
 pub mod Journals
 pub mod Own
+pub mod Shows
+pub mod Next
+pub mod Endings
 pub mod Kept
+pub mod Opens
+pub mod Finishings
 pub mod Changing
+pub mod Committing
 pub mod Holdings
+pub mod EndedBy

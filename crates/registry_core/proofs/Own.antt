@@ -1,5 +1,5 @@
 -- The entries that a caller has more after its calls.
-use Rattle.std.proofs.Common.{◌≡◌, ℕ, ◌+◌, List, [], ◌∷◌, ◌++◌, length, length-append, append_assoc, append-nil, true, cond, filter, Option, Some, None, inl, inr, refl, sym, ap, ◌∙◌, arith}
+use Rattle.std.proofs.Common.{◌≡◌, ℕ, List, [], ◌∷◌, ◌++◌, length, length-append, append_assoc, cond, Option, Some, None, inl, inr, refl, sym, ap, ◌∙◌, arith}
 use Rattle.std.proofs.lemmas.List.{append_cancel_left}
 use Rattle.std.proofs.lemmas.Option.{none-some}
 use Rattle.registry_machine.specs.declared.entry.Entry.{Entry}
@@ -8,12 +8,12 @@ use Rattle.registry_machine.specs.Machine.{is_some_of}
 use Rattle.registry_machine.specs.Callers.{mine, Prolongs}
 use Rattle.registry_machine.proofs.Lists.{same_test}
 use Rattle.searcher_table.specs.declared.board.Asked.{Asked}
-use Rattle.searcher_table.specs.Views.{StartsWith, GoesOn, IsStill, WasExecuted}
+use Rattle.searcher_table.specs.Views.{StartsWith, GoesOn}
 use Rattle.searcher_table.proofs.Frame.{own_joined}
 use Rattle.searcher_table.proofs.Passing.{nothing_more}
 
 -- where one is all that there is, nothing stands before it or behind it
-alone : {A : Type 0} (xs ys : List A) (a b : A) → xs ++ a ∷ ys ≡ b ∷ [] → (xs ≡ []) × (ys ≡ [])
+pub alone : {A : Type 0} (xs ys : List A) (a b : A) → xs ++ a ∷ ys ≡ b ∷ [] → (xs ≡ []) × (ys ≡ [])
 alone [] [] a b e = (refl, refl)
 alone [] (y ∷ ys) a b e = let n = ap length e in absurd (omega arith)
 alone (x ∷ xs) ys a b e = let n = ap length e in let m = length-append xs (a ∷ ys) in absurd (omega arith)

@@ -1,5 +1,5 @@
 -- What a history tells in the journal.
-use Rattle.std.specs.Prelude.{ℕ, List, [], ◌∷◌, ◌++◌, map, filter_map, Option, Some, None}
+use Rattle.std.specs.Prelude.{◌≡◌, ℕ, List, [], ◌∷◌, ◌++◌, map, filter_map, Option, Some, None}
 use Rattle.registry_machine.specs.declared.entry.Entry.{Entry}
 use Rattle.registry_machine.specs.declared.entry.Entry.TheVariants.{Open, TooMany, GenerationsSpent, Update, Finish, Superseded, Acquire, NotYet, Release, Free}
 use Rattle.searcher_table.specs.declared.gens.Gens.{Gens}
@@ -54,6 +54,17 @@ module _ {U : Type 0} where
     -- the updates of a history, in their order
     abbrev pub updates_of : List (Entry (Change U) X L) → List U
     updates_of log = filter_map update_of log
+
+    -- the documents that an opening shows
+    abbrev pub docs_of : Entry (Change U) X L → Option X
+    docs_of (Open c change g slot docs) = Some docs
+    docs_of _ = None
+
+    -- each opening shows documents that are right after the updates before it
+    abbrev pub ShowRight : (List U → X → Type 0) → List (Entry (Change U) X L) → Type 0
+    ShowRight Right log =
+        (before rest : List (Entry (Change U) X L)) (e : Entry (Change U) X L) (docs : X) →
+        log ≡ before ++ e ∷ rest → docs_of e ≡ Some docs → Right (updates_of before) docs
 
   -- ---- a journal as it is kept
 

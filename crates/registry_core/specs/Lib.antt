@@ -1,5 +1,13 @@
+pub mod Making
 pub mod Journal
+pub mod Finishes
 pub mod Keeping
 pub mod Entering
 pub mod Callers
 pub mod Holding
+pub mod Opening
+pub mod Freshness
+pub mod Commits
+pub mod Finishing
+pub mod Publications
+pub mod Lending

@@ -4,15 +4,24 @@
 
 mod caller;
 mod change;
+mod commit;
+mod ended;
 mod enter;
+mod finish;
+mod fresh;
 mod journal;
 mod locked;
+mod open;
 mod pinned;
 mod update;
 mod writer;
 
 pub use caller::{Caller, UpdateRefusal};
 pub use change::Change;
+pub use commit::CommitRefusal;
+pub use ended::Finish;
+pub use finish::Finished;
+pub use fresh::Fresh;
 pub use journal::{Happened, Placed};
 pub use locked::{Locked, Terms};
 pub use pinned::Pinned;

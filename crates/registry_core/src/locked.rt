@@ -1,6 +1,7 @@
 use crate::NoMemory;
 use crate::caller::UpdateRefusal;
 use crate::change::Change;
+use crate::ended::{Ended, Finish};
 use crate::journal::{Happened, Placed};
 use crate::writer::Writer;
 use searcher_table::{Announced, Gens, Registrar, Shown, Sighting};
@@ -20,6 +21,12 @@ pub struct Locked<D: Shown, U: Drop, W: Writer<D, U>> {
     pub(crate) registrar: Registrar<D, Change<U>>,
     pub(crate) writer: W,
     pub(crate) journal: Vec<Placed<U, Gens>>,
+    // The warmings that callers ended.
+    pub(crate) finishes: Vec<Ended>,
+    // How many callers there are.
+    pub(crate) callers: u32,
+    // How many generations are warming. There is room for their ends.
+    pub(crate) warming: u32,
     // How many updates were accepted, and may be.
     pub(crate) accepted: u32,
     pub(crate) max_updates: u32,
@@ -28,12 +35,12 @@ pub struct Locked<D: Shown, U: Drop, W: Writer<D, U>> {
 impl<D: Shown, U: Drop, W: Writer<D, U>> Fits for Locked<D, U, W> {
     type View = Terms<D, U>;
 
-    type Entry = u32;
+    type Entry = Finish;
 
-    ghost use Rattle.std.specs.Prelude.{[]};
+    ghost use Rattle.registry_core.specs.Finishes.{finishes_of};
     ghost use Rattle.registry_core.specs.Keeping.{FitsTerms};
 
-    ghost fits = { FitsTerms W.taken };
+    ghost fits = { FitsTerms W.Writer };
 
-    ghost entries = { λ l n. [] };
+    ghost entries = { λ l n. finishes_of n l.finishes.items };
 }
