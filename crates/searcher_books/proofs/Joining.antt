@@ -1,11 +1,12 @@
 -- Doors whose seats are joined into those of the last one.
 use Rattle.std.proofs.Common.{◌≡◌, ℕ, List, [], ◌∷◌, ◌++◌, map, Option, Some, None, ap, refl, subst, ◌∙◌, sym, slice_get}
 use Rattle.std.specs.Prelude.{option_map}
-use Rattle.std.proofs.lemmas.Option.{same_Some, slice_get-map}
+use Rattle.std.proofs.lemmas.Option.{slice_get-map}
 use mathlib.Core.List.{map-append}
 use Rattle.view_cells.specs.declared.seat.Seat.{Seat}
-use Rattle.view_cells.specs.Seats.{table_of, view_of, own_list, IsIdle, HasJoined, KeepsLists}
-use Rattle.view_cells.specs.Closing.{AllIdle, IsAlone, AreLeft}
+use Rattle.view_cells.specs.Lists.{AreDistinct}
+use Rattle.view_cells.specs.Seats.{table_of, view_of, lists_of, own_list, IsIdle, HasJoined, KeepsLists}
+use Rattle.view_cells.specs.Closing.{AllIdle, AreLeft}
 use Rattle.view_cells.proofs.Closing.{last_of, one_less, next_left, fits_left, keeps_left}
 use Rattle.searcher_core.specs.declared.searcher.Door.{Door}
 use Rattle.searcher_books.specs.declared.closing.Last.{Last}
@@ -32,15 +33,7 @@ module _ {T W E : Type 0} (f : Door → Seat T W E) where
   fits_each fit doors one value left fits i d at =
       fits_left fit (map f doors) [] one value left fits i (f d) (slice_get-map f doors i ∙ ap (option_map f) at)
 
-  -- a seat at some place is that of the door there
-  alone_at : (doors : List Door) → ((i : ℕ) (d : Door) → slice_get doors i ≡ Some d → IsAlone (f d)) → (i : ℕ) (s : Seat T W E) → slice_get (map f doors) i ≡ Some s → IsAlone s
-  alone_at doors alone i s at = by (slice_get doors i) refl
-    where
-      by : (o : Option Door) → slice_get doors i ≡ o → IsAlone s
-      by None q = let p : None ≡ Some s = ap (option_map f) (sym q) ∙ sym (slice_get-map f doors i) ∙ at in absurd (cc)
-      by (Some d) q = subst IsAlone (same_Some (f d) s (ap (option_map f) (sym q) ∙ sym (slice_get-map f doors i) ∙ at)) (alone i d q)
-
   pub keeps_each : (entries : T → ℕ → List E) (doors : List Door) (one : Seat T W E) (value : T) → AreLeft (map f doors) [] one → KeepsLists entries one value
-      → ((i : ℕ) (d : Door) → slice_get doors i ≡ Some d → IsAlone (f d)) → (i : ℕ) (d : Door) → slice_get doors i ≡ Some d → entries value i ≡ own_list (f d)
-  keeps_each entries doors one value left keeps alone i d at =
-      keeps_left entries (map f doors) [] one value refl left keeps (alone_at doors alone) i (f d) (slice_get-map f doors i ∙ ap (option_map f) at)
+      → AreDistinct (lists_of one) → (i : ℕ) (d : Door) → slice_get doors i ≡ Some d → entries value i ≡ own_list (f d)
+  keeps_each entries doors one value left keeps distinct i d at =
+      keeps_left entries (map f doors) [] one value refl left keeps distinct i (f d) (slice_get-map f doors i ∙ ap (option_map f) at)

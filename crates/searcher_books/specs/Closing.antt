@@ -1,6 +1,6 @@
 -- All doors of a searcher, and what its caches were called for.
 use Rattle.std.specs.Prelude.{◌≡◌, ℕ, ◌≤◌, List, length, map, slice_get, Some, None}
-use Rattle.view_cells.specs.Closing.{AllIdle, IsAlone}
+use Rattle.view_cells.specs.Closing.{AllIdle}
 use Rattle.cache_machine.specs.Machine.{Cache, Kept}
 use Rattle.cache_traces.specs.declared.act.Step.{Step}
 use Rattle.cache_traces.specs.declared.store_act.StoreStep.{StoreStep}
@@ -31,12 +31,6 @@ pub record AreAllDoors (doors : List Door) : Type 0 where
   pub filters : AllIdle (map (λ d. d.seats.filters) doors)
   pub results : AllIdle (map (λ d. d.seats.results) doors)
   pub documents : AllIdle (map (λ d. d.seats.documents) doors)
-
--- the seats of no other door were joined into a door's
-pub record AreAlone (doors : List Door) : Type 0 where
-  pub filters : (i : ℕ) (d : Door) → slice_get doors i ≡ Some d → IsAlone d.seats.filters
-  pub results : (i : ℕ) (d : Door) → slice_get doors i ≡ Some d → IsAlone d.seats.results
-  pub documents : (i : ℕ) (d : Door) → slice_get doors i ≡ Some d → IsAlone d.seats.documents
 
 -- what is said of each door by its number
 abbrev pub OfEach : List Door → (ℕ → Door → Type 0) → Type 0

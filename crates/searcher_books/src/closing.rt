@@ -8,7 +8,7 @@ ghost use Rattle.searcher_cells.specs.Sights.{DocumentFits, FilterFits, ResultFi
 ghost use Rattle.view_cells.specs.Closing.{AreLeft};
 ghost use Rattle.view_cells.specs.Seats.{own_list, view_of};
 ghost use Rattle.searcher_books.specs.Books.{book_of, store_book_of};
-ghost use Rattle.searcher_books.specs.Closing.{AreAllDoors, AreAlone, AreRun, AreStoreRun, OfEach};
+ghost use Rattle.searcher_books.specs.Closing.{AreAllDoors, AreRun, AreStoreRun, OfEach};
 ghost use Rattle.searcher_books.specs.Closing.{filter_rules, result_rules};
 
 use crate::book::{Book, of_store, of_trace};
@@ -64,11 +64,11 @@ pub fn close_doors(doors: Vec<Door>) -> Books
         (view_of d.seats.results) result.traces.results.keys result.traces.results.steps) }
     ensures document_run { OfEach doors.items (λ _ d. AreStoreRun document_rules DocumentFits
         (view_of d.seats.documents) result.traces.documents.items) }
-    ensures filter_calls { AreAlone doors.items → OfEach doors.items (λ i d.
+    ensures filter_calls { OfEach doors.items (λ i d.
         calls_of i result.traces.filters.steps ≡ own_list d.seats.filters) }
-    ensures result_calls { AreAlone doors.items → OfEach doors.items (λ i d.
+    ensures result_calls { OfEach doors.items (λ i d.
         calls_of i result.traces.results.steps ≡ own_list d.seats.results) }
-    ensures document_calls { AreAlone doors.items → OfEach doors.items (λ i d.
+    ensures document_calls { OfEach doors.items (λ i d.
         store_calls_of i result.traces.documents.items ≡ own_list d.seats.documents) }
 {
     let last = joined(doors);

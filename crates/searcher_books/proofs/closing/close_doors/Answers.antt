@@ -18,9 +18,9 @@ returns-clause-filter_run c i d at =
     (cell.cache, subst (λ t. CellFits filter_rules (FilterFits v) v.size None v.seats t) (λ j. record { keys = sym e.keys j; cache = cell.cache; steps = sym e.steps j }) fits)
 
 pub returns-clause-filter_calls : goal.returns-clause-filter_calls
-returns-clause-filter_calls c alone i d at =
+returns-clause-filter_calls c i d at =
     ap (calls_of i) c.into_trace-filters.ensures.steps
-    ∙ keeps_each (λ d. d.seats.filters) (λ t n. calls_of n t.cells.steps) c.args.doors.items c.joined-last.result.filters c.close.result c.joined-last.ensures.filters c.close.ensures.lists alone.filters i d at
+    ∙ keeps_each (λ d. d.seats.filters) (λ t n. calls_of n t.cells.steps) c.args.doors.items c.joined-last.result.filters c.close.result c.joined-last.ensures.filters c.close.ensures.lists c.close.ensures.distinct i d at
 
 pub returns-clause-result_run : goal.returns-clause-result_run
 returns-clause-result_run c i d at =
@@ -31,9 +31,9 @@ returns-clause-result_run c i d at =
     (cell.cache, subst (λ t. CellFits result_rules (ResultFits v) v.size None v.seats t) (λ j. record { keys = sym e.keys j; cache = cell.cache; steps = sym e.steps j }) fits)
 
 pub returns-clause-result_calls : goal.returns-clause-result_calls
-returns-clause-result_calls c alone i d at =
+returns-clause-result_calls c i d at =
     ap (calls_of i) c.into_trace-results.ensures.steps
-    ∙ keeps_each (λ d. d.seats.results) (λ t n. calls_of n t.cells.steps) c.args.doors.items c.joined-last.result.results c.close-2.result c.joined-last.ensures.results c.close-2.ensures.lists alone.results i d at
+    ∙ keeps_each (λ d. d.seats.results) (λ t n. calls_of n t.cells.steps) c.args.doors.items c.joined-last.result.results c.close-2.result c.joined-last.ensures.results c.close-2.ensures.lists c.close-2.ensures.distinct i d at
 
 pub returns-clause-document_run : goal.returns-clause-document_run
 returns-clause-document_run c i d at =
@@ -43,6 +43,6 @@ returns-clause-document_run c i d at =
     (cell.kept, subst (λ t. StoreFits document_rules (DocumentFits v) v.size None t) (λ j. record { kept = cell.kept; steps = sym c.into_steps-documents.ensures j }) fits)
 
 pub returns-clause-document_calls : goal.returns-clause-document_calls
-returns-clause-document_calls c alone i d at =
+returns-clause-document_calls c i d at =
     ap (store_calls_of i) c.into_steps-documents.ensures
-    ∙ keeps_each (λ d. d.seats.documents) (λ t n. store_calls_of n t.cells.steps) c.args.doors.items c.joined-last.result.documents c.close-3.result c.joined-last.ensures.documents c.close-3.ensures.lists alone.documents i d at
+    ∙ keeps_each (λ d. d.seats.documents) (λ t n. store_calls_of n t.cells.steps) c.args.doors.items c.joined-last.result.documents c.close-3.result c.joined-last.ensures.documents c.close-3.ensures.lists c.close-3.ensures.distinct i d at
